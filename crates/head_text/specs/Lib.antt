@@ -1,0 +1,4 @@
+pub mod Headers
+pub mod Decimal
+pub mod Hex
+pub mod DateText

@@ -1,0 +1,91 @@
+ghost use Rattle.std.specs.Prelude.{◌≡◌, bytes_eq, IfOk};
+ghost use Rattle.std.specs.List.{list_all};
+ghost use Rattle.acl_text.specs.Ids.{id_of, is_id, is_id_byte, is_plain_id, superuser};
+
+use std::alloc::{AllocError, Global};
+use std::marker::Model;
+
+/// The id of a caller, an owner or a group. A contract sees the list of its bytes.
+#[derive(Debug, Drop)]
+pub struct Id {
+    bytes: Vec<u8>,
+}
+
+impl Model for Id {
+    ghost use Rattle.std.specs.Prelude.{List, ℕ};
+
+    ghost Value = { List ℕ };
+
+    ghost view = { λ i. i.bytes.items };
+}
+
+impl Id {
+    /// The bytes.
+    pub fn bytes(&self) -> &[u8]
+        ensures { result.now ≡ self.now }
+    {
+        self.bytes.as_slice()
+    }
+
+    /// `$superuser`, the id that may do all. The one error is want of memory.
+    pub fn superuser(alloc: Global) -> Result<Id, AllocError>
+        ensures { IfOk result (λ id. id ≡ superuser) }
+    {
+        Ok(Id {
+            bytes: b"$superuser".as_slice().to_vec(alloc)?,
+        })
+    }
+
+    /// Whether this is `$superuser`, the id that may do all.
+    pub fn is_superuser(&self) -> bool
+        ensures { result ≡ bytes_eq self.now superuser }
+    {
+        self.bytes.as_slice() == b"$superuser".as_slice()
+    }
+
+    /// Another id with the same bytes. The one error is want of memory.
+    pub fn copy(&self, alloc: Global) -> Result<Id, AllocError>
+        ensures { IfOk result (λ id. id ≡ self.now) }
+    {
+        Ok(Id {
+            bytes: self.bytes.as_slice().to_vec(alloc)?,
+        })
+    }
+}
+
+/// Reads an id: `$superuser`, or 1 to 64 ASCII letters, digits, `.`, `_`, `@` and `-`. The answer is `None` exactly for another
+/// text; the one error is want of memory.
+pub fn read_id(alloc: Global, text: &[u8]) -> Result<Option<Id>, AllocError>
+    ensures { IfOk result (λ id. id ≡ id_of text.now) }
+{
+    if !is_id(text) {
+        return Ok(None);
+    }
+    Ok(Some(Id {
+        bytes: text.to_vec(alloc)?,
+    }))
+}
+
+fn is_id(text: &[u8]) -> bool
+    ensures { result ≡ is_id text.now }
+{
+    text == b"$superuser".as_slice() || is_plain_id(text)
+}
+
+fn is_plain_id(text: &[u8]) -> bool
+    ensures { result ≡ is_plain_id text.now }
+{
+    1 <= text.len() && text.len() <= 64 && are_id_bytes(text)
+}
+
+fn are_id_bytes(text: &[u8]) -> bool
+    ensures { result ≡ list_all is_id_byte text.now }
+{
+    text.iter().all(|byte| is_id_byte(*byte))
+}
+
+fn is_id_byte(byte: u8) -> bool
+    ensures { result ≡ is_id_byte byte }
+{
+    byte.is_ascii_alphanumeric() || byte == b'.' || byte == b'_' || byte == b'@' || byte == b'-'
+}

@@ -1,0 +1,4 @@
+pub mod LeaseTable
+pub mod LeaseFaults
+pub mod LeaseLaws
+pub mod LeaseId

@@ -1,0 +1,5 @@
+pub mod Codes
+pub mod Tree
+pub mod Filesystems
+pub mod Run
+pub mod Sound

@@ -1,0 +1,10 @@
+pub mod StandsLemmas
+pub mod Texts
+pub mod SubmitLemmas
+pub mod WrittenLemmas
+pub mod DecodedLemmas
+pub mod RoomLemmas
+pub mod ServingInvariant
+pub mod EntryLemmas
+pub mod ServeLemmas
+pub mod CompleteLemmas

@@ -1,0 +1,11 @@
+pub mod Limits
+pub mod Journal
+pub mod ReplyText
+pub mod Decoded
+pub mod Stands
+pub mod Drafts
+pub mod Submits
+pub mod Answered
+pub mod Written
+pub mod Served
+pub mod Refuses

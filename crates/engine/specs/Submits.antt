@@ -1,0 +1,34 @@
+-- One submit, and the texts of a journal.
+use Rattle.std.specs.Prelude.{◌≡◌, ℕ, suc, ◌+◌, List, [], ◌∷◌, ◌++◌, length, drop}
+use Rattle.namespace_model.specs.declared.request.Entry.{Entry}
+use Rattle.namespace_model.specs.declared.reply.Reply.{Reply}
+use Rattle.namespace_model.specs.Run.{replies_of}
+use Rattle.engine.specs.declared.solo.Answer.{Answer}
+use Rattle.engine.specs.Journal.{JournalView}
+use Rattle.engine.specs.ReplyText.{reply_text}
+
+-- the texts of replies to entries with numbers from this one on
+unfoldable pub texts_from : ℕ → List Reply → List Entry → List (List ℕ)
+texts_from number [] entries = []
+texts_from number (r ∷ rs) [] = []
+texts_from number (r ∷ rs) (e ∷ es) = reply_text r number e.moment e.request.head ∷ texts_from (suc number) rs es
+
+-- for each entry of a journal in order, the text of the reply that the run of the journal gives at its place
+unfoldable pub texts_of : List Entry → List (List ℕ)
+texts_of journal = texts_from 1 (replies_of journal) journal
+
+-- the texts for the entries past the first ones of a journal
+abbrev pub texts_past : List Entry → List Entry → List (List ℕ)
+texts_past old new = drop (length old) (texts_of new)
+
+-- The entry is the journal's last; the answer has the text of its reply in the run of the journal, and its number.
+pub record Submits (old new : JournalView) (entry : Entry) (answer : Answer) : Type 0 where
+  pub journal : new.entries ≡ old.entries ++ entry ∷ []
+  pub text : texts_of new.entries ≡ texts_of old.entries ++ answer.bytes.items ∷ []
+  pub number : answer.receipt.number ≡ length new.entries
+  pub rounds : answer.receipt.rounds ≡ 1
+
+-- a journal with the same entries and limits
+pub record IsUnchanged (old new : JournalView) : Type 0 where
+  pub entries : new.entries ≡ old.entries
+  pub limits : new.limits ≡ old.limits

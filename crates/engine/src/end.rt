@@ -1,0 +1,20 @@
+use http_front::BadHttp;
+
+/// How the serving of a connection ended.
+#[derive(Clone, Copy, Debug, PartialEq, Eq)]
+pub enum End {
+    /// The source was at its end between two requests.
+    Done,
+    /// As many requests were answered as a connection may send.
+    Spent,
+    /// The source was at its end within a request, so many bytes behind the last whole one.
+    CutShort(u64),
+    /// The bytes are no request that the service takes. A last reply says so.
+    BadRequest(BadHttp),
+    /// The source failed, and counted it.
+    ReadFault,
+    /// The sink failed, and counted it.
+    WriteFault,
+    /// There was no memory for a further request or for a last reply.
+    NoMemory,
+}

@@ -1,5 +1,6 @@
 -- What the devices in memory hold.
-use Rattle.std.specs.Prelude.{◌≡◌, ℕ, ◌+◌, ◌-◌, ◌≤◌, ◌⊎◌, min, List, ◌++◌, drop, length, Contains, slice_index, vec_len}
+use Rattle.std.specs.Prelude.{◌≡◌, ℕ, ◌+◌, ◌-◌, ◌^◌, ◌≤◌, ◌⊎◌, min, List, [], ◌++◌, drop, length, Contains, slice_index, Vec, vec_len}
+use Rattle.std.specs.declared.alloc.Global.{Global}
 use Rattle.std.specs.List.{flat_map}
 use Rattle.conn_io.specs.declared.memory.BytesIn.{BytesIn}
 use Rattle.conn_io.specs.declared.memory.BytesOut.{BytesOut}
@@ -9,6 +10,18 @@ use Rattle.conn_io.specs.declared.clocks.ListClock.{ListClock}
 abbrev pub bytes_left : BytesIn → List ℕ
 bytes_left s = drop s.at s.piece.items ++ flat_map (λ p. p.items) s.pieces.items
 
+-- a source that was not asked yet: these pieces are to come, and calls with these numbers fail
+pub record IsNewSource (pieces : List (Vec ℕ Global)) (failing : List ℕ) (s : BytesIn) : Type 0 where
+  pub left : bytes_left s ≡ flat_map (λ p. p.items) pieces
+  pub fails : s.failing.items ≡ failing
+  pub asked : s.calls ≡ 0
+  pub faultless : s.faults ≡ 0
+
+-- one call more was made, and the same calls fail
+pub record IsAsked (old new : BytesIn) : Type 0 where
+  pub calls : new.calls ≡ min (old.calls + 1) (2 ^ 64 - 1)
+  pub fails : new.failing ≡ old.failing
+
 -- the next call is one of those that fail
 abbrev pub ReadFails : BytesIn → Type 0
 ReadFails s = Contains s.failing.items s.calls
@@ -16,6 +29,26 @@ ReadFails s = Contains s.failing.items s.calls
 -- what the sink took so far
 abbrev pub bytes_taken : BytesOut → List ℕ
 bytes_taken s = s.bytes.items
+
+-- a sink that was not asked yet: it takes so many bytes at a call and in all, and calls with these numbers fail
+pub record IsNewSink (most room : ℕ) (failing : List ℕ) (s : BytesOut) : Type 0 where
+  pub taken : bytes_taken s ≡ []
+  pub most_is : s.most ≡ most
+  pub room_is : s.room ≡ room
+  pub fails : s.failing.items ≡ failing
+  pub asked : s.calls ≡ 0
+  pub faultless : s.faults ≡ 0
+
+-- one call more was made, and the sink takes as much as before at a call and in all
+pub record IsGiven (old new : BytesOut) : Type 0 where
+  pub calls : new.calls ≡ min (old.calls + 1) (2 ^ 64 - 1)
+  pub most : new.most ≡ old.most
+  pub room : new.room ≡ old.room
+  pub fails : new.failing ≡ old.failing
+
+-- as much of the piece as may be taken at a call and as there is room for
+abbrev pub amount_taken : BytesOut → List ℕ → ℕ
+amount_taken s piece = min (min (length piece) s.most) (s.room - vec_len s.bytes)
 
 -- the next call is one of those that fail, or all the room is taken
 abbrev pub WriteFails : BytesOut → Type 0

@@ -17,13 +17,12 @@ pub struct BytesIn {
 }
 
 impl BytesIn {
-    ghost use Rattle.std.specs.List.{flat_map};
-    ghost use Rattle.conn_io.specs.Memory.{bytes_left};
+    ghost use Rattle.conn_io.specs.Memory.{bytes_left, IsNewSource};
 
     /// A source of these pieces in their order. Call `k`, counted from 0, fails if `k` is in `failing`; each other call gives bytes
     /// of at most one piece. Empty pieces are passed over.
     pub fn new(alloc: Global, pieces: Vec<Vec<u8>>, failing: Vec<u64>) -> BytesIn
-        ensures bytes { bytes_left result ≡ flat_map (λ p. p.items) pieces.items }
+        ensures { IsNewSource pieces.items failing.items result }
     {
         BytesIn {
             piece: Vec::new(alloc),
@@ -60,7 +59,7 @@ impl Source for BytesIn {
     ghost use Rattle.std.specs.Io.{ReadsAtMost};
     ghost use Rattle.std.specs.Io.KnownBytes.{ReadConsumes};
     ghost use Rattle.conn_io.specs.Causes.{HasCause};
-    ghost use Rattle.conn_io.specs.Memory.{bytes_left, ReadFails};
+    ghost use Rattle.conn_io.specs.Memory.{bytes_left, ReadFails, IsAsked};
 
     ghost left = { λ s. Some (bytes_left s) };
 
@@ -72,6 +71,7 @@ impl Source for BytesIn {
         ensures bytes { ReadConsumes (Some (bytes_left self.old)) (Some (bytes_left self.new)) result buf.new }
         ensures cause { HasCause self.old.faults self.new.faults result }
         ensures fails { IsErr result ↔ ReadFails self.old }
+        ensures asked { IsAsked self.old self.new }
     {
         let call = self.calls;
         self.calls = call.saturating_add(1);
@@ -111,7 +111,7 @@ pub struct BytesOut {
 }
 
 impl BytesOut {
-    ghost use Rattle.conn_io.specs.Memory.{bytes_taken};
+    ghost use Rattle.conn_io.specs.Memory.{bytes_taken, IsNewSink};
 
     /// A sink that takes at most `most` bytes at a call and `room` bytes in all. Call `k`, counted from 0, fails exactly where `k` is in
     /// `failing` or all the room is taken. The one error is want of memory for the room.
@@ -122,7 +122,7 @@ impl BytesOut {
         failing: Vec<u64>,
     ) -> Result<BytesOut, AllocError>
         requires { 0 < most }
-        ensures { IfOk result (λ sink. bytes_taken sink ≡ []) }
+        ensures { IfOk result (IsNewSink most room failing.items) }
     {
         Ok(BytesOut {
             bytes: Vec::with_capacity(alloc, room)?,
@@ -146,7 +146,7 @@ impl Sink for BytesOut {
     ghost use Rattle.std.specs.Prelude.{◌≡◌, ◌<◌, ◌≤◌, ◌↔◌, Some, length, IfOk, IsErr};
     ghost use Rattle.std.specs.Io.KnownBytes.{WriteAppends};
     ghost use Rattle.conn_io.specs.Causes.{HasCause};
-    ghost use Rattle.conn_io.specs.Memory.{bytes_taken, WriteFails};
+    ghost use Rattle.conn_io.specs.Memory.{bytes_taken, amount_taken, WriteFails, IsGiven};
 
     ghost out = { λ s. Some (bytes_taken s) };
 
@@ -159,6 +159,8 @@ impl Sink for BytesOut {
         ensures bytes { WriteAppends (Some (bytes_taken self.old)) (Some (bytes_taken self.new)) result piece.now }
         ensures cause { HasCause self.old.faults self.new.faults result }
         ensures fails { IsErr result ↔ WriteFails self.old }
+        ensures amount { IfOk result (λ n. n ≡ amount_taken self.old piece.now) }
+        ensures given { IsGiven self.old self.new }
     {
         let call = self.calls;
         self.calls = call.saturating_add(1);

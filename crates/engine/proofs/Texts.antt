@@ -1,15 +1,11 @@
 -- The texts of a journal with one entry more.
-use Rattle.std.proofs.Common.{◌≡◌, ℕ, suc, ◌+◌, ◌≤◌, List, [], ◌∷◌, ◌++◌, length, drop, refl, sym, ap, ◌∙◌, arith}
+use Rattle.std.proofs.Common.{◌≡◌, ℕ, suc, ◌+◌, ◌≤◌, List, [], ◌∷◌, ◌++◌, zero, length, slice_get, Some, refl, sym, ap, ◌∙◌, arith}
 use Rattle.namespace_model.specs.declared.request.Entry.{Entry}
 use Rattle.namespace_model.specs.declared.reply.Reply.{Reply}
 use Rattle.namespace_model.specs.Run.{step, tree_of, replies_of}
 use Rattle.namespace_model.proofs.Runs.{replies_push, length-replies_of}
 use Rattle.engine.specs.ReplyText.{reply_text}
-use Rattle.engine.specs.Submits.{texts_from, texts_of}
-
--- the text of the reply to an entry behind a journal
-abbrev pub next_text : List Entry → Entry → List ℕ
-next_text journal e = reply_text (step (tree_of journal) e (length journal + 1)).reply (length journal + 1) e.moment e.request.head
+use Rattle.engine.specs.Submits.{texts_from, texts_of, next_text, SpellsTheRun}
 
 texts_from_push : (n : ℕ) (rs : List Reply) (es : List Entry) (r : Reply) (e : Entry) → length rs ≡ length es
     → texts_from n (rs ++ r ∷ []) (es ++ e ∷ []) ≡ texts_from n rs es ++ reply_text r (length es + n) e.moment e.request.head ∷ []
@@ -42,3 +38,26 @@ length-texts_from n (s ∷ rs) (x ∷ es) same =
 pub length-texts_of : (es : List Entry) → length (texts_of es) ≡ length es
 unfolding texts_of
 length-texts_of es = length-texts_from 1 (replies_of es) es (length-replies_of es)
+
+texts_from_at : (n k : ℕ) (rs : List Reply) (es : List Entry) (r : Reply) (e : Entry) → slice_get es k ≡ Some e → slice_get rs k ≡ Some r
+    → slice_get (texts_from n rs es) k ≡ Some (reply_text r (k + n) e.moment e.request.head)
+unfolding texts_from
+texts_from_at n k [] es r e here there = absurd (cc)
+texts_from_at n k (s ∷ rs) [] r e here there = absurd (cc)
+texts_from_at n zero (s ∷ rs) (x ∷ es) r e here there =
+    let place : 0 + n ≡ n = omega arith in
+    let entry : x ≡ e = cc in
+    let reply : s ≡ r = cc in
+    rw (place, entry, reply) refl
+texts_from_at n (suc k) (s ∷ rs) (x ∷ es) r e here there =
+    let place : suc k + n ≡ k + suc n = omega arith in
+    rw place (texts_from_at (suc n) k rs es r e here there)
+
+-- the texts of a journal are those of its run, place by place
+pub spells_the_run : (journal : List Entry) → SpellsTheRun journal
+unfolding texts_of
+spells_the_run journal = record {
+  one_more = texts_push journal;
+  at_place = λ n e r here there. texts_from_at 1 n (replies_of journal) journal r e here there;
+  as_many = length-texts_of journal;
+}

@@ -1,8 +1,8 @@
 -- One submit, and the texts of a journal.
-use Rattle.std.specs.Prelude.{◌≡◌, ℕ, suc, ◌+◌, List, [], ◌∷◌, ◌++◌, length, drop}
+use Rattle.std.specs.Prelude.{◌≡◌, ℕ, suc, ◌+◌, List, [], ◌∷◌, ◌++◌, length, drop, slice_get, Some}
 use Rattle.namespace_model.specs.declared.request.Entry.{Entry}
 use Rattle.namespace_model.specs.declared.reply.Reply.{Reply}
-use Rattle.namespace_model.specs.Run.{replies_of}
+use Rattle.namespace_model.specs.Run.{step, tree_of, replies_of}
 use Rattle.engine.specs.declared.solo.Answer.{Answer}
 use Rattle.engine.specs.Journal.{JournalView}
 use Rattle.engine.specs.ReplyText.{reply_text}
@@ -16,6 +16,17 @@ texts_from number (r ∷ rs) (e ∷ es) = reply_text r number e.moment e.request
 -- for each entry of a journal in order, the text of the reply that the run of the journal gives at its place
 unfoldable pub texts_of : List Entry → List (List ℕ)
 texts_of journal = texts_from 1 (replies_of journal) journal
+
+-- the text of the reply to an entry behind a journal: its step on the tree that the journal leaves, under the number of its place
+abbrev pub next_text : List Entry → Entry → List ℕ
+next_text journal e = reply_text (step (tree_of journal) e (length journal + 1)).reply (length journal + 1) e.moment e.request.head
+
+-- What is worked out entry after entry is what the run of the whole journal gives at each place. Places count from 1 here, as numbers do.
+pub record SpellsTheRun (journal : List Entry) : Type 0 where
+  pub one_more : (e : Entry) → texts_of (journal ++ e ∷ []) ≡ texts_of journal ++ next_text journal e ∷ []
+  pub at_place : (n : ℕ) (e : Entry) (r : Reply) → slice_get journal n ≡ Some e → slice_get (replies_of journal) n ≡ Some r
+      → slice_get (texts_of journal) n ≡ Some (reply_text r (n + 1) e.moment e.request.head)
+  pub as_many : length (texts_of journal) ≡ length journal
 
 -- the texts for the entries past the first ones of a journal
 abbrev pub texts_past : List Entry → List Entry → List (List ℕ)

@@ -1,0 +1,31 @@
+-- Taking a stripe shared keeps the machine sound.
+use Rattle.std.proofs.Common.{ℕ, ◌+◌, ◌<◌, List, refl, ap, sym, ◌∙◌, length-set, map, slice_set, slice_index, le_refl, arith}
+use Rattle.lock_core.specs.declared.machine.Hold.TheVariants.{Shared}
+use Rattle.lock_core.specs.declared.machine.Event.TheVariants as event
+use Rattle.lock_core.specs.Object.{Object}
+use Rattle.lock_core.specs.Machine.{plain, LockState, seat_at, with_hold, IsAllowed, stepped}
+use Rattle.lock_core.specs.Sound.{Grip, grip, IsSound}
+use Rattle.lock_core.proofs.Totals.{elem-map}
+use Rattle.lock_core.proofs.Stripes.{lock_shared}
+use Rattle.lock_core.proofs.Columns.{calm_at, index-set_same, index-set_other, hold_at-set_same, hold_at-set_other, grip_is, stripe_same, live_elem, touches}
+
+module _ {T E R : Type 0} (o : Object T E R) (h0 : List E) where
+  pub lock_shared_keeps : (m : LockState T E R) (v s : ℕ) → s < 64 → IsSound o h0 m → IsAllowed o m (plain (event.LockShared v s))
+      → IsSound o h0 (stepped o m (plain (event.LockShared v s)))
+  lock_shared_keeps m v s h ok a =
+      let x = seat_at m.seats v in
+      let live = a.0 in
+      let calm = calm_at x.latch s a.1.1.0 in
+      let free = a.1.1.1.0 s (le_refl s) in
+      let room = a.1.1.1.1.0 in
+      let wide = (ok.seats v live).wide in
+      let words' = slice_set m.words s (slice_index m.words s + 1) in
+      let here = elem-map (grip s) m.seats v x (live_elem m.seats v live) in
+      touches o h0 m ok v (with_hold x s Shared) live
+      (record { live = refl; number = refl; wide = length-set x.holds s Shared; journal = refl; seen = refl; mine = refl; olds = refl })
+      s h words' m.homes (length-set m.words s _ ∙ ok.words) (λ i n _. index-set_other m.words s i _ n) ok.homes (λ k n. refl)
+      (λ k n. grip_is _ _ _ _ (hold_at-set_other x.holds s k Shared n) refl)
+      (stripe_same (sym (index-set_same m.words s _ (omega (arith, ok.words)))) (sym (index-set_other m.words s (64 + s) _ (λ e. omega arith))) refl
+      (ap (λ (g : Grip T). slice_set (map (grip s) m.seats) v g)
+      (grip_is _ _ _ _ (sym (hold_at-set_same x.holds s Shared (omega (arith, wide)))) (sym calm)))
+      (lock_shared _ _ _ _ _ (ok.stripes s h) v (grip s x) here free calm room))

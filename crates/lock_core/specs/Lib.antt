@@ -1,0 +1,10 @@
+pub mod Clauses
+pub mod CoreView
+pub mod Invariant
+pub mod Lists
+pub mod Machine
+pub mod Marks
+pub mod Object
+pub mod Runs
+pub mod Sound
+pub mod Tallied

@@ -1,1 +1,11 @@
 pub mod Ids
+pub mod Whos
+pub mod AclMaps
+pub mod Places
+pub mod Acls
+pub mod Stops
+pub mod AclChanges
+pub mod PermTexts
+pub mod AclTexts
+pub mod AclWriting
+pub mod AclLaws

@@ -1,11 +1,39 @@
-//! Who may do what: the ids of callers, owners and groups.
+//! Access control lists: ids, permissions, entries, and what setting, modifying and removing entries make of them.
 //!
-//! Definitions: specs/Ids.antt (which texts are ids).
+//! An `AclPair` is the access list of a file or a directory and, of a directory, perhaps a default list. `read_acl` and
+//! `read_remove_list` read the texts of callers, `set`, `modify`, `remove` and `with_mode` make new pairs of them and leave
+//! what they were handed as it was, and `write_acl` and `write_permissions` print. A caller may rely on each list being
+//! complete and in printed order, on each reader accepting exactly its grammar, and on each change being its function on
+//! finite maps. The laws of `laws` say in plain words what the changes keep.
+//!
+//! Definitions: specs/Ids.antt (ids), specs/Whos.antt (whom an entry is for, and the printed order), specs/Acls.antt (what
+//! holds of each list), specs/AclMaps.antt (the mask rule), specs/AclChanges.antt (the changes), specs/PermTexts.antt and
+//! specs/AclTexts.antt (the grammars), specs/AclWriting.antt (printed texts), specs/Stops.antt (how an answer yields to want
+//! of memory), specs/AclLaws.antt (words of the laws).
+//!
+//! The grammar of entries, the roles and the sticky bit are those of Microsoft's documentation of access control in Azure
+//! Data Lake Storage Gen2; the grammar of ids, the computed mask and how default lists are completed are this project's own.
 #![tactic(auto)]
 
+mod acl;
+mod change;
+mod entries;
 mod id;
+pub mod laws;
+mod list;
+mod mode;
+mod perm;
+mod read_entry;
+mod read_list;
+mod who;
+mod write;
 
+pub use acl::{Acl, AclFault, AclPair, AclStop};
+pub use change::{modify, remove, set, with_mode};
 pub use id::{Id, read_id};
-
-#[cfg(test)]
-mod tests;
+pub use list::{AclList, RemoveList};
+pub use mode::{read_permissions, read_umask, write_permissions};
+pub use perm::{ModeBits, Perm};
+pub use read_list::{read_acl, read_remove_list};
+pub use who::{Who, compare};
+pub use write::write_acl;

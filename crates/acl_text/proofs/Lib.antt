@@ -1,0 +1,11 @@
+pub mod WhoLemmas
+pub mod EntryLemmas
+pub mod AclLemmas
+pub mod ListLemmas
+pub mod WriteLemmas
+pub mod PermLemmas
+pub mod EntryTextLemmas
+pub mod TextLemmas
+pub mod ModeLemmas
+pub mod LawLemmas
+pub mod PrintLemmas

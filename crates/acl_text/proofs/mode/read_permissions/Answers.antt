@@ -1,0 +1,10 @@
+use Rattle.std.proofs.Common.{◌≡◌, IfErr, sym, subst, ◌∙◌}
+use Rattle.acl_text.specs.PermTexts.{mode_fault}
+use Rattle.acl_text.proofs.ModeLemmas.{permissions_fault, permissions_is, permissions_of-text}
+use Rattle.acl_text.proofs.mode.read_permissions.Goals as goal
+
+pub returns-clause-spelled : goal.returns-clause-spelled
+returns-clause-spelled c = λ bits. (λ e. permissions_is c.args.text.now bits (sym c.permissions_of.ensures ∙ e), λ h. c.permissions_of.ensures ∙ permissions_of-text c.args.text.now bits h)
+
+pub returns-clause-fault : goal.returns-clause-fault
+returns-clause-fault c = subst (λ r. IfErr r (λ fault. fault ≡ mode_fault c.args.text.now)) (sym c.permissions_of.ensures) (permissions_fault c.args.text.now)

@@ -1,0 +1,10 @@
+use Rattle.std.proofs.Common.{◌≡◌, take, drop, map}
+use Rattle.std.specs.List.{filter_map, position_from}
+use Rattle.acl_text.specs.AclTexts.{entry_of}
+use Rattle.acl_text.proofs.ListLemmas.{is_bad}
+use Rattle.acl_text.proofs.read_list.entries_of.Given as goal
+
+abbrev pub invariant-loop-at : goal.invariant-loop-at
+invariant-loop-at l =
+    (position_from (is_bad entry_of) 0 (map (λ t. t.now) l.items) ≡ position_from (is_bad entry_of) l.at (drop l.at (map (λ t. t.now) l.items)))
+    × (l.entries.items ≡ filter_map entry_of (take l.at (map (λ t. t.now) l.items)))

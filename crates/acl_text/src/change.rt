@@ -1,0 +1,295 @@
+ghost use Rattle.std.specs.Prelude.{◌≡◌, IfOk, IfErr, IfSome, option_map, fold, bit_or, map, filter, if◌then◌else◌};
+ghost use Rattle.std.specs.FinMap as fin;
+ghost use Rattle.acl_text.specs.Whos.{is_limited};
+ghost use Rattle.acl_text.specs.AclMaps.{AclMap, map_of, masked, union_of, base_of};
+ghost use Rattle.acl_text.specs.Acls.{IsAclMap, IsComplete};
+ghost use Rattle.acl_text.specs.Stops.{Answers};
+ghost use Rattle.acl_text.specs.AclChanges.{in_scope, names, gives_mask, given_in, changed_scope, default_start, changed_default, is_over, pair_of, acl_modify, missing_in, acl_set, names_item, lists, without, removed_scope, drops_default, removed_default, acl_remove, group_holder, mode_set, acl_with_mode};
+
+use crate::acl::{Acl, AclFault, AclPair, AclStop, copied_default};
+use crate::entries::{Entries, is_in_scope, lists};
+use crate::list::{AclList, RemoveList};
+use crate::perm::{ModeBits, Perm};
+use crate::who::Who;
+use std::alloc::{AllocError, Global};
+
+fn names(items: &[(bool, Who, Perm)], default: bool) -> bool
+    ensures { result ≡ names default items.now }
+{
+    items.iter().any(|item| is_in_scope(default, item.0))
+}
+
+fn gives_mask(items: &[(bool, Who, Perm)], default: bool) -> bool
+    ensures { result ≡ gives_mask default items.now }
+{
+    items
+        .iter()
+        .any(|item| is_in_scope(default, item.0) && item.1.is_mask())
+}
+
+// The entries of a scope in turn put into a map.
+fn with_given(
+    alloc: Global,
+    from: Entries,
+    items: &[(bool, Who, Perm)],
+    default: bool,
+) -> Result<Entries, AllocError>
+    ensures { IfOk result (λ entries. entries ≡ given_in default items.now from) }
+{
+    let mut entries = from;
+    for (scope, who, perm) in items {
+        if is_in_scope(default, *scope) {
+            entries.put(who.copy(alloc)?, *perm)?;
+        }
+    }
+    Ok(entries)
+}
+
+// What the entries that a mask limits give together.
+fn union_of(items: &[(Who, Perm)]) -> Perm
+    ensures { result ≡ fold bit_or 0 (map (λ e. e.1) (filter (λ e. is_limited e.0) items.now)) }
+{
+    let mut union = Perm::none();
+    for (who, perm) in items {
+        if who.is_limited() {
+            union = union.union(*perm);
+        }
+    }
+    union
+}
+
+fn with_mask_rule(entries: Entries, is_mask_given: bool) -> Result<Entries, AllocError>
+    ensures { IfOk result (λ ruled. ruled ≡ masked is_mask_given entries) }
+{
+    let mut ruled = entries;
+    if !is_mask_given {
+        if ruled.has_named() {
+            let union = union_of(ruled.as_slice());
+            ruled.put(Who::Mask, union)?;
+        } else {
+            ruled.drop_mask();
+        }
+    }
+    Ok(ruled)
+}
+
+fn changed(
+    alloc: Global,
+    from: Entries,
+    items: &[(bool, Who, Perm)],
+    default: bool,
+) -> Result<Entries, AllocError>
+    ensures { IfOk result (λ entries. entries ≡ changed_scope default items.now from) }
+{
+    if !names(items, default) {
+        return Ok(from);
+    }
+    let entries = with_given(alloc, from, items, default)?;
+    with_mask_rule(entries, gives_mask(items, default))
+}
+
+fn default_start(
+    alloc: Global,
+    default: Option<Entries>,
+    access: &Entries,
+) -> Result<Entries, AllocError>
+    ensures { IfOk result (λ start. start ≡ default_start default access.now) }
+{
+    match default {
+        Some(entries) => Ok(entries),
+        None => {
+            let mut start = access.copy(alloc)?;
+            start.keep_base();
+            Ok(start)
+        }
+    }
+}
+
+fn changed_default(
+    alloc: Global,
+    default: Option<Entries>,
+    access: &Entries,
+    items: &[(bool, Who, Perm)],
+) -> Result<Option<Entries>, AllocError>
+    ensures { IfOk result (λ changed. changed ≡ changed_default items.now default access.now) }
+{
+    if !names(items, true) {
+        return Ok(default);
+    }
+    let start = default_start(alloc, default, access)?;
+    Ok(Some(changed(alloc, start, items, true)?))
+}
+
+fn is_over(entries: &Entries) -> bool
+    ensures { result ≡ is_over entries.now }
+{
+    32 < entries.as_slice().len()
+}
+
+// The pair of two maps.
+fn pair_of(access: Entries, default: Option<Entries>) -> Result<AclPair, AclFault>
+    requires access { IsComplete access }
+    requires default { IfSome default IsComplete }
+    ensures { result ≡ pair_of access default }
+{
+    if is_over(&access) {
+        return Err(AclFault::TooMany);
+    }
+    let access = Acl { map: access };
+    match default {
+        Some(map) if is_over(&map) => Err(AclFault::TooMany),
+        Some(map) => Ok(AclPair {
+            access,
+            default: Some(Acl { map }),
+        }),
+        None => Ok(AclPair {
+            access,
+            default: None,
+        }),
+    }
+}
+
+fn default_map(alloc: Global, default: &Option<Acl>) -> Result<Option<Entries>, AllocError>
+    ensures map { IfOk result (λ map. map ≡ option_map map_of default.now) }
+    ensures complete { IfOk result (λ map. IfSome map IsComplete) }
+    ensures acl { IfOk result (λ map. IfSome map IsAclMap) }
+{
+    match default {
+        Some(acl) => Ok(Some(acl.copied_map(alloc)?)),
+        None => Ok(None),
+    }
+}
+
+/// Sets entries: each of the list replaces the entry that the pair has for the same scope and who, or is added.
+///
+/// A default ACL that isn't there starts as the three base entries of the changed access ACL. In each scope that the list names, a
+/// mask that it gives stands; else the mask is the union of the owning group, the named users and the named groups where there
+/// are named ones, and else there is none. The fault is `TooMany`, exactly where a scope of the result has over 32 entries.
+pub fn modify(alloc: Global, pair: &AclPair, list: &AclList) -> Result<AclPair, AclStop>
+    ensures { Answers result (acl_modify pair.now list.now) }
+{
+    let items = list.entries();
+    let access = changed(alloc, pair.access.copied_map(alloc)?, items, false)?;
+    let start = default_map(alloc, &pair.default)?;
+    let default = changed_default(alloc, start, &access, items)?;
+    pair_of(access, default).map_err(AclStop::Fault)
+}
+
+fn missing_in(entries: &Entries) -> Option<Who>
+    ensures { result ≡ missing_in entries.now }
+{
+    if entries.get(&Who::Owner).is_none() {
+        Some(Who::Owner)
+    } else if entries.get(&Who::OwningGroup).is_none() {
+        Some(Who::OwningGroup)
+    } else if entries.get(&Who::Other).is_none() {
+        Some(Who::Other)
+    } else {
+        None
+    }
+}
+
+/// Makes a pair of the entries of a list alone.
+///
+/// A default scope that the list names takes a missing one of the three base entries from the access ACL; one that isn't named
+/// gives no default ACL. In each scope that the list names, a mask that it gives stands; else the mask is the union of the owning
+/// group, the named users and the named groups where there are named ones, and else there is none. The fault is `Missing`, for the
+/// first of the owner, the owning group and the others that has no entry in the access scope, and else `TooMany`, exactly where a
+/// scope of the result has over 32 entries.
+pub fn set(alloc: Global, list: &AclList) -> Result<AclPair, AclStop>
+    ensures { Answers result (acl_set list.now) }
+{
+    let items = list.entries();
+    let given = with_given(alloc, Entries::new(alloc), items, false)?;
+    match missing_in(&given) {
+        Some(who) => return Err(AclStop::Fault(AclFault::Missing(who))),
+        None => {}
+    }
+    let access = with_mask_rule(given, gives_mask(items, false))?;
+    let default = changed_default(alloc, None, &access, items)?;
+    pair_of(access, default).map_err(AclStop::Fault)
+}
+
+fn names_item(items: &[(bool, Who)], default: bool) -> bool
+    ensures { result ≡ names_item default items.now }
+{
+    items.iter().any(|item| is_in_scope(default, item.0))
+}
+
+fn removed(from: Entries, items: &[(bool, Who)], default: bool) -> Result<Entries, AllocError>
+    ensures { IfOk result (λ entries. entries ≡ removed_scope default items.now from) }
+{
+    let mut entries = from;
+    if names_item(items, default) {
+        entries.drop_listed(items, default);
+        entries = with_mask_rule(entries, false)?;
+    }
+    Ok(entries)
+}
+
+fn removed_default(
+    default: Option<Entries>,
+    items: &[(bool, Who)],
+) -> Result<Option<Entries>, AllocError>
+    ensures { IfOk result (λ left. left ≡ removed_default items.now default) }
+{
+    if lists(items, true, &Who::Owner)
+        && lists(items, true, &Who::OwningGroup)
+        && lists(items, true, &Who::Other)
+    {
+        return Ok(None);
+    }
+    match default {
+        Some(entries) => Ok(Some(removed(entries, items, true)?)),
+        None => Ok(None),
+    }
+}
+
+/// Removes entries of named users, named groups and the mask that are there.
+///
+/// An item that names the owner, the owning group or the others changes nothing, except that a list with all three in the default
+/// scope drops the default ACL. In each scope that the list names, the mask is then the union of the owning group, the named users
+/// and the named groups where there are named ones, and else there is none. There is no fault but want of memory.
+pub fn remove(alloc: Global, pair: &AclPair, list: &RemoveList) -> Result<AclPair, AclStop>
+    ensures answer { Answers result (acl_remove pair.now list.now) }
+    ensures only_memory { IfErr result (λ stop. stop ≡ AclStop.NoMemory) }
+{
+    let items = list.entries();
+    let access = removed(pair.access.copied_map(alloc)?, items, false)?;
+    let default = removed_default(default_map(alloc, &pair.default)?, items)?;
+    pair_of(access, default).map_err(AclStop::Fault)
+}
+
+// Whose entry the group bits of a mode are.
+fn group_holder(map: &Entries) -> Who
+    ensures { result ≡ group_holder map.now }
+{
+    if map.get(&Who::Mask).is_some() {
+        Who::Mask
+    } else {
+        Who::OwningGroup
+    }
+}
+
+fn mode_set(from: Entries, bits: &ModeBits) -> Result<Entries, AllocError>
+    ensures { IfOk result (λ map. map ≡ mode_set bits.now from) }
+{
+    let holder = group_holder(&from);
+    let mut map = from;
+    map.put(Who::Owner, bits.owner)?;
+    map.put(holder, bits.group)?;
+    map.put(Who::Other, bits.other)?;
+    Ok(map)
+}
+
+/// Sets the permissions of a mode: of the owner, of the mask where there is one and else of the owning group, and of the others,
+/// in the access ACL. The default ACL stays. The one error is want of memory.
+pub fn with_mode(alloc: Global, pair: &AclPair, bits: &ModeBits) -> Result<AclPair, AllocError>
+    ensures { IfOk result (λ changed. changed ≡ acl_with_mode pair.now bits.now) }
+{
+    let map = mode_set(pair.access.copied_map(alloc)?, bits)?;
+    Ok(AclPair {
+        access: Acl { map },
+        default: copied_default(alloc, &pair.default)?,
+    })
+}

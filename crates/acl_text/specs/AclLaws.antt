@@ -17,6 +17,10 @@ IsAclPair pair = IsAcl pair.access × IfSome pair.default IsAcl
 abbrev pub ListsAllButBase : List (Bool × Who) → List (Who × ℕ) → Type 0
 ListsAllButBase list es = (who : Who) → is_base who ≡ false → IsSome (find who_cmp who es) → IsTrue (lists false list who)
 
--- entries whose ids are ids and whose permissions are three bits, as those of each pair of the program
+-- an entry whose id is one and whose permissions are three bits
+abbrev pub IsWritable : Bool × Who × ℕ → Type 0
+IsWritable e = IsTrue (is_whose e.1) × (e.2 < 8)
+
+-- entries that are all so, as those of each pair of the program
 abbrev pub AreWritable : List (Bool × Who × ℕ) → Type 0
-AreWritable es = AllByRecursion (λ e. IsTrue (is_whose e.1) × (e.2 < 8)) es
+AreWritable es = AllByRecursion IsWritable es

@@ -1,4 +1,4 @@
-ghost use Rattle.std.specs.Prelude.{◌≡◌, bytes_eq, IfOk};
+ghost use Rattle.std.specs.Prelude.{◌≡◌, bytes_eq, IfOk, IsTrue};
 ghost use Rattle.std.specs.List.{list_all};
 ghost use Rattle.acl_text.specs.Ids.{id_of, is_id, is_id_byte, is_plain_id, superuser};
 
@@ -12,17 +12,21 @@ pub struct Id {
 }
 
 impl Model for Id {
-    ghost use Rattle.std.specs.Prelude.{List, ℕ};
+    ghost use Rattle.std.specs.Prelude.{List, ℕ, IsTrue};
+    ghost use Rattle.acl_text.specs.Ids.{is_id};
 
     ghost Value = { List ℕ };
 
     ghost view = { λ i. i.bytes.items };
+
+    ghost invariant = { λ i. IsTrue (is_id i.bytes.items) };
 }
 
 impl Id {
     /// The bytes.
     pub fn bytes(&self) -> &[u8]
-        ensures { result.now ≡ self.now }
+        ensures value { result.now ≡ self.now }
+        ensures id { IsTrue (is_id self.now) }
     {
         self.bytes.as_slice()
     }

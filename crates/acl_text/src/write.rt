@@ -1,7 +1,10 @@
-ghost use Rattle.std.specs.Prelude.{◌≡◌, ◌++◌, fold, length, IfOk, OnOk, is_ok, if◌then◌else◌};
-ghost use Rattle.acl_text.specs.AclTexts.{who_text, kind_text};
+ghost use Rattle.std.specs.Prelude.{◌≡◌, ◌++◌, fold, length, IfOk, IfSome, OnOk, Ok, IsTrue, is_ok, if◌then◌else◌};
+ghost use Rattle.acl_text.specs.AclTexts.{who_text, kind_text, is_whose, acl_list_of};
 ghost use Rattle.acl_text.specs.Whos.{id_in};
-ghost use Rattle.acl_text.specs.AclWriting.{scoped, default_entries, acl_text, with_entry};
+ghost use Rattle.acl_text.specs.AclWriting.{scoped, default_entries, entries_of, acl_text, with_entry};
+ghost use Rattle.acl_text.specs.Acls.{IsAcl};
+ghost use Rattle.acl_text.specs.AclChanges.{acl_set};
+ghost use Rattle.acl_text.specs.AclLaws.{IsWritable, AreWritable, IsAclPair};
 
 use crate::acl::{Acl, AclPair};
 use crate::perm::Perm;
@@ -20,7 +23,8 @@ fn kind_text(who: &Who) -> &'static [u8]
 }
 
 fn id_in(who: &Who) -> &[u8]
-    ensures { result.now ≡ id_in who.now }
+    ensures value { result.now ≡ id_in who.now }
+    ensures id { IsTrue (is_whose who.now) }
 {
     match who {
         Who::User(id) | Who::Group(id) => id.bytes(),
@@ -29,7 +33,8 @@ fn id_in(who: &Who) -> &[u8]
 }
 
 fn append_who(text: &mut Vec<u8>, who: &Who) -> Result<(), AllocError>
-    ensures { OnOk result (text.new.items ≡ text.old.items ++ who_text who.now) }
+    ensures text { OnOk result (text.new.items ≡ text.old.items ++ who_text who.now) }
+    ensures id { OnOk result (IsTrue (is_whose who.now)) }
 {
     text.extend_from_slice(kind_text(who))?;
     text.push(b':')?;
@@ -37,7 +42,8 @@ fn append_who(text: &mut Vec<u8>, who: &Who) -> Result<(), AllocError>
 }
 
 fn append_entry(text: &mut Vec<u8>, default: bool, who: &Who, perm: Perm) -> Result<(), AllocError>
-    ensures { OnOk result (text.new.items ≡ with_entry text.old.items (default, who.now, perm)) }
+    ensures text { OnOk result (text.new.items ≡ with_entry text.old.items (default, who.now, perm)) }
+    ensures writable { OnOk result (IsWritable (default, who.now, perm)) }
 {
     if !text.is_empty() {
         text.push(b',')?;
@@ -55,7 +61,8 @@ fn append_entries(
     default: bool,
     entries: &[(Who, Perm)],
 ) -> Result<(), AllocError>
-    ensures { OnOk result (text.new.items ≡ fold with_entry text.old.items (scoped default entries.now)) }
+    ensures text { OnOk result (text.new.items ≡ fold with_entry text.old.items (scoped default entries.now)) }
+    ensures writable { OnOk result (AreWritable (scoped default entries.now)) }
 {
     for (who, perm) in entries {
         append_entry(text, default, who, *perm)?;
@@ -64,7 +71,9 @@ fn append_entries(
 }
 
 fn append_default(text: &mut Vec<u8>, default: &Option<Acl>) -> Result<(), AllocError>
-    ensures { OnOk result (text.new.items ≡ fold with_entry text.old.items (default_entries default.now)) }
+    ensures text { OnOk result (text.new.items ≡ fold with_entry text.old.items (default_entries default.now)) }
+    ensures acl { OnOk result (IfSome default.now IsAcl) }
+    ensures writable { OnOk result (AreWritable (default_entries default.now)) }
 {
     match default {
         Some(acl) => append_entries(text, true, acl.entries()),
@@ -73,7 +82,9 @@ fn append_default(text: &mut Vec<u8>, default: &Option<Acl>) -> Result<(), Alloc
 }
 
 fn acl_text(alloc: Global, pair: &AclPair) -> Result<Vec<u8>, AllocError>
-    ensures { IfOk result (λ text. text.items ≡ acl_text pair.now) }
+    ensures text { IfOk result (λ text. text.items ≡ acl_text pair.now) }
+    ensures acl { OnOk result (IsAclPair pair.now) }
+    ensures writable { OnOk result (AreWritable (entries_of pair.now)) }
 {
     let mut text = Vec::new(alloc);
     append_entries(&mut text, false, pair.access.entries())?;
@@ -88,6 +99,8 @@ fn acl_text(alloc: Global, pair: &AclPair) -> Result<Vec<u8>, AllocError>
 /// text as it was.
 pub fn write_acl(pair: &AclPair, out: &mut Vec<u8>) -> Result<(), AllocError>
     ensures text { out.new.items ≡ (if is_ok result then out.old.items ++ acl_text pair.now else out.old.items) }
+    ensures read_back { OnOk result (acl_list_of (acl_text pair.now) ≡ Ok (entries_of pair.now)) }
+    ensures set_back { OnOk result (acl_set (entries_of pair.now) ≡ Ok pair.now) }
 {
     let text = acl_text(*out.allocator(), pair)?;
     out.extend_from_slice(text.as_slice())

@@ -1,15 +1,33 @@
 //! Paths of the namespace: filesystem names, names, and lists of them.
 //!
-//! A contract sees a name as the list of its bytes and a path as the list of its parts with the filesystem's name first; the
-//! empty path is the account. Definitions: specs/Paths.antt (the order of paths and prefixes), specs/Names.antt (which texts
-//! name a filesystem).
+//! A contract sees a name as the list of its bytes, a path as the list of its parts with the filesystem's name first, and a
+//! query as the list of its pairs of a key and a value; the empty path is the account. `read_target` reads a request's target,
+//! `read_plain` a text without escapes, and `read_token` a continuation token; `write_path` and `write_token` write what is
+//! read back. A caller may rely on each reader answering exactly its definition, up to want of memory, and on each path that
+//! is read keeping the limits.
+//!
+//! Definitions: specs/Paths.antt (the order of paths and prefixes), specs/Names.antt (which texts name a filesystem),
+//! specs/Parts.antt (the parts of a path), specs/Texts.antt (the limits, the texts of paths, and the first fault of one),
+//! specs/Targets.antt (escapes and queries), specs/Queries.antt (the value of a key), specs/Tokens.antt (tokens). The laws of
+//! `laws` say in plain words what the readers keep.
 #![tactic(auto)]
 
+mod escape;
+mod fault;
+pub mod laws;
 mod name;
+mod parts;
 mod path;
+mod plain;
+mod query;
+mod target;
+mod token;
 
+pub use fault::{PathFault, TargetStop};
 pub use name::{FsName, Name, read_fs_name};
+pub use parts::Parts;
 pub use path::Path;
-
-#[cfg(test)]
-mod tests;
+pub use plain::read_plain;
+pub use query::{Pair, Query};
+pub use target::{read_target, write_path};
+pub use token::{read_token, write_token};

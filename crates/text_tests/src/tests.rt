@@ -1,1 +1,2 @@
 mod acl;
+mod path;

@@ -1,0 +1,9 @@
+pub mod TextLemmas
+pub mod PlaceLemmas
+pub mod EscapeLemmas
+pub mod WrittenLemmas
+pub mod ReadLemmas
+pub mod RoundTrip
+pub mod GrammarLemmas
+pub mod TokenLemmas
+pub mod LawLemmas

@@ -2,3 +2,6 @@ pub mod Headers
 pub mod Decimal
 pub mod Hex
 pub mod DateText
+pub mod Conditions
+pub mod ConditionsOf
+pub mod Ranges

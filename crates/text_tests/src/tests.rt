@@ -1,2 +1,3 @@
 mod acl;
+mod head;
 mod path;

@@ -1,0 +1,161 @@
+use head_text::{
+    Conditions, ETagList, Range, Unmet, conditions_hold, date_text, read_date, read_range,
+};
+use std::alloc::{AllocError, Global};
+use std::test::Fail;
+
+#[test]
+fn ranges(rt: HostRuntime) {
+    for (text, want) in [
+        ("bytes=5-", Some(Range { from: 5, to: None })),
+        (
+            "bytes=0-0",
+            Some(Range {
+                from: 0,
+                to: Some(0),
+            }),
+        ),
+        (
+            "bytes=4194304-4194309",
+            Some(Range {
+                from: 4_194_304,
+                to: Some(4_194_309),
+            }),
+        ),
+        ("bytes=2-1", None),
+        ("bytes=-3", None),
+        ("bytes=-", None),
+        ("bytes=", None),
+        ("bytes=5", None),
+        ("bytes=1-2-3", None),
+        ("bytes=1-2,4-5", None),
+        ("bytes= 1-2", None),
+        ("Bytes=1-2", None),
+        ("bytes=1-10000000000000000000", None),
+        ("", None),
+    ] {
+        assert_eq!(rt; read_range(text.as_bytes()), want);
+    }
+}
+
+#[test]
+fn dates(rt: HostRuntime) {
+    for (text, want) in [
+        ("Sun, 06 Nov 1994 08:49:37 GMT", Some(784_111_777)),
+        ("Sunday, 06-Nov-94 08:49:37 GMT", Some(784_111_777)),
+        ("Sun Nov  6 08:49:37 1994", Some(784_111_777)),
+        ("Thu, 01 Jan 1970 00:00:00 GMT", Some(0)),
+        ("Fri, 31 Dec 9999 23:59:59 GMT", Some(253_402_300_799)),
+        // The year of two digits is of 1970 to 2069.
+        ("Thursday, 01-Jan-70 00:00:00 GMT", Some(0)),
+        ("Wed, 31 Dec 1969 23:59:59 GMT", None),
+        ("Sat, 01 Jan 10000 00:00:00 GMT", None),
+        ("Mon, 06 Nov 1994 08:49:37 GMT", None),
+        ("Sun, 06 Nov 1994 08:49:60 GMT", None),
+        (" Sun, 06 Nov 1994 08:49:37 GMT", None),
+        ("Sun, 06 Nov 1994 08:49:37 GMT ", None),
+        ("Sun, 06 Nov 1994 08:49:37", None),
+        ("784111777", None),
+        ("", None),
+    ] {
+        assert_eq!(rt; read_date(text.as_bytes()), want);
+    }
+}
+
+#[test]
+fn a_written_date_is_read(rt: HostRuntime) {
+    for secs in [0, 59, 784_111_777, 951_782_400, 253_402_300_799] {
+        assert_eq!(rt; read_date(date_text(secs).as_slice()), Some(secs));
+    }
+}
+
+fn tags(alloc: Global, any: bool, number: u64) -> Result<Option<ETagList>, AllocError> {
+    let mut numbers = Vec::new(alloc);
+    if !any {
+        numbers.push(number)?;
+    }
+    ETagList::new(any, numbers).copy(alloc).map(Some)
+}
+
+fn judged(
+    alloc: Global,
+    matches: Option<ETagList>,
+    none: Option<ETagList>,
+    modified: Option<u64>,
+    unmodified: Option<u64>,
+    node: Option<(u64, u64)>,
+) -> Result<Result<(), Unmet>, AllocError> {
+    let conditions = Conditions {
+        matches,
+        none,
+        modified,
+        unmodified,
+    };
+    Ok(conditions_hold(&conditions.copy(alloc)?, node))
+}
+
+#[test]
+fn tags_of_conditions(rt: HostRuntime) -> Result<(), Fail> {
+    let alloc = rt.alloc();
+    let node = Some((7, 1_999));
+    for (any, number, node, match_answer, none_answer) in [
+        (true, 0, node, Ok(()), Err(Unmet::NoneMatch)),
+        (false, 7, node, Ok(()), Err(Unmet::NoneMatch)),
+        (false, 8, node, Err(Unmet::Match), Ok(())),
+        (true, 0, None, Err(Unmet::Match), Ok(())),
+        (false, 7, None, Err(Unmet::Match), Ok(())),
+    ] {
+        let list = tags(alloc, any, number)?;
+        assert_eq!(rt; judged(alloc, list, None, None, None, node)?, match_answer);
+        let list = tags(alloc, any, number)?;
+        assert_eq!(rt; judged(alloc, None, list, None, None, node)?, none_answer);
+    }
+    let listed = tags(alloc, false, 7)?;
+    if let Some(list) = listed {
+        assert!(rt; !list.any());
+        assert_eq!(rt; list.numbers(), [7].as_slice());
+        assert!(rt; list.lists(7) && !list.lists(8));
+    }
+    Ok(())
+}
+
+#[test]
+fn dates_of_conditions(rt: HostRuntime) -> Result<(), Fail> {
+    let alloc = rt.alloc();
+    // The node changed in second 2, 999 milliseconds into it.
+    let node = Some((7, 2_999));
+    for (date, modified_answer, unmodified_answer) in [
+        (1, Ok(()), Err(Unmet::Unmodified)),
+        (2, Err(Unmet::Modified), Ok(())),
+        (3, Err(Unmet::Modified), Ok(())),
+    ] {
+        let answer = judged(alloc, None, None, Some(date), None, node)?;
+        assert_eq!(rt; answer, modified_answer);
+        let answer = judged(alloc, None, None, None, Some(date), node)?;
+        assert_eq!(rt; answer, unmodified_answer);
+        let answer = judged(alloc, None, None, Some(date), Some(date), None)?;
+        assert_eq!(rt; answer, Ok(()));
+    }
+    Ok(())
+}
+
+#[test]
+fn the_first_condition_that_fails_is_named(rt: HostRuntime) -> Result<(), Fail> {
+    let alloc = rt.alloc();
+    let node = Some((7, 2_000));
+    let other = tags(alloc, false, 8)?;
+    let any = tags(alloc, true, 0)?;
+    let answer = judged(alloc, other, any, Some(2), Some(1), node)?;
+    assert_eq!(rt; answer, Err(Unmet::Match));
+    let any = tags(alloc, true, 0)?;
+    let answer = judged(alloc, None, any, Some(2), Some(1), node)?;
+    assert_eq!(rt; answer, Err(Unmet::Unmodified));
+    let any = tags(alloc, true, 0)?;
+    let answer = judged(alloc, None, any, Some(2), Some(2), node)?;
+    assert_eq!(rt; answer, Err(Unmet::NoneMatch));
+    let answer = judged(alloc, None, None, Some(2), Some(2), node)?;
+    assert_eq!(rt; answer, Err(Unmet::Modified));
+    let answer = judged(alloc, None, None, None, None, node)?;
+    assert_eq!(rt; answer, Ok(()));
+    Ok(())
+}

@@ -1,0 +1,5 @@
+pub mod Staging
+pub mod FileRecord
+pub mod Troubles
+pub mod FileInside
+pub mod Orders

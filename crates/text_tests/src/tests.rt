@@ -1,3 +1,4 @@
 mod acl;
+mod file;
 mod head;
 mod path;

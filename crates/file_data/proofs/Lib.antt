@@ -1,0 +1,4 @@
+pub mod StagingLemmas
+pub mod FileLemmas
+pub mod TroubleLemmas
+pub mod OrderLemmas

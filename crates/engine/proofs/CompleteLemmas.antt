@@ -1,8 +1,7 @@
 -- Completeness: bytes that are complete requests and nothing else are all answered.
-use Rattle.std.proofs.Common.{◌≡◌, ◌≢◌, ℕ, suc, ◌+◌, ◌<◌, ◌≤◌, ◌⊎◌, inl, inr, List, [], ◌∷◌, ◌++◌, length, map, drop, Option, Some, None, refl, sym, ap, ◌∙◌, subst, append_assoc, append-nil, length-append, arith}
+use Rattle.std.proofs.Common.{◌≡◌, ◌≢◌, ℕ, ◌<◌, ◌⊎◌, inl, inr, List, [], ◌∷◌, ◌++◌, length, map, drop, Option, Some, None, refl, sym, ap, ◌∙◌, append_assoc, append-nil, length-append, arith}
 use Rattle.std.specs.Prelude.{All}
 use Rattle.std.specs.List.{flat_map}
-use Rattle.std.specs.Io.KnownBytes.{Consumes, IsAtEnd}
 use Rattle.std.proofs.lemmas.List.{length-map}
 use Rattle.std.proofs.lemmas.List.Elements.{All-head, All-tail}
 use Rattle.std.proofs.Math.Seq.{drop-append_seam}
@@ -15,7 +14,7 @@ use Rattle.namespace_model.specs.declared.request.Entry.{Entry}
 use Rattle.engine.specs.declared.end.End.{End}
 use Rattle.engine.specs.declared.end.End.TheVariants as end
 use Rattle.engine.proofs.ServeLemmas.{length-texts_past}
-use Rattle.engine.specs.Served.{Served, TakesRequests, Ends, ReadCounts, WriteCounts, AnswersAll, Completes, request_of, request_in}
+use Rattle.engine.specs.Served.{Served, TakesRequests, ReadCounts, WriteCounts, AnswersAll, Completes, request_of, request_in}
 
 -- requests that are the front of requests, and what is left of these
 record IsFront (ts us : List RequestText) (rest : List ℕ) : Type 0 where

@@ -1,9 +1,7 @@
 -- What every decoded request keeps of its raw one.
-use Rattle.std.proofs.Common.{◌≡◌, ℕ, Bool, true, false, cond, List, [], ◌∷◌, Option, Some, None, refl}
+use Rattle.std.proofs.Common.{◌≡◌, ℕ, Bool, true, false, cond, List, Option, Some, None, refl}
 use Rattle.path_text.specs.Names.{is_fs_name}
 use Rattle.http_front.specs.declared.raw.Raw.{Raw}
-use Rattle.namespace_model.specs.declared.code.Code.TheVariants.{InvalidResourceName}
-use Rattle.namespace_model.specs.declared.request.Op.TheVariants.{CreateFilesystem, Refused}
 use Rattle.namespace_model.specs.declared.request.Request.{Request}
 use Rattle.engine.specs.Decoded.{decoded, decoded_for, asked_filesystem}
 

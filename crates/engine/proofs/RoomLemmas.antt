@@ -1,5 +1,5 @@
 -- Where there is room for an entry without a body the journal is not full.
-use Rattle.std.proofs.Common.{◌≡◌, ◌≢◌, ℕ, ◌+◌, ◌<◌, ◌≤◌, List, [], length, Result, Ok, Err, ◌↔◌, IsErrOf, refl, sym, ap, ◌∙◌, arith}
+use Rattle.std.proofs.Common.{◌≡◌, ℕ, ◌<◌, List, [], length, Result, Err, ◌↔◌, IsErrOf, ap, arith}
 use Rattle.engine.specs.declared.limits.Full.{Full}
 use Rattle.engine.specs.declared.limits.Full.TheVariants as kinds
 use Rattle.engine.specs.declared.solo.Answer.{Answer}

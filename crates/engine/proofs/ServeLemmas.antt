@@ -1,8 +1,8 @@
 -- What each exit of serving owes, over plain variables.
-use Rattle.std.proofs.Common.{◌≡◌, ◌≢◌, ℕ, suc, ◌+◌, ◌<◌, ◌≤◌, ◌⊎◌, inl, inr, false, List, [], ◌∷◌, ◌++◌, length, Option, Some, None, Result, Ok, Err, refl, sym, ap, ◌∙◌, append_assoc, append-nil, length-append, length-drop, arith}
+use Rattle.std.proofs.Common.{◌≡◌, ℕ, ◌+◌, ◌<◌, ◌≤◌, inl, inr, false, List, [], ◌∷◌, ◌++◌, length, Option, Some, None, Ok, Err, refl, sym, ap, ◌∙◌, append_assoc, append-nil, length-append, length-drop, arith}
 use Rattle.std.specs.Prelude.{All}
-use Rattle.std.specs.List.{concat, flat_map}
-use Rattle.std.specs.Io.KnownBytes.{Consumes, Appends, IsAtEnd}
+use Rattle.std.specs.List.{concat}
+use Rattle.std.specs.Io.KnownBytes.{Consumes, Appends}
 use Rattle.std.proofs.KnownBytes.{Consumes-nil, Consumes-trans, Appends-nil, Appends-trans}
 use Rattle.std.proofs.lemmas.List.Folds.{concat-append}
 use Rattle.std.proofs.lemmas.List.Elements.{All-nil}
@@ -13,8 +13,8 @@ use Rattle.http_front.specs.declared.answers.BadHttp.TheVariants.{NotBuilt}
 use Rattle.http_front.specs.declared.answers.FrontFault.{FrontFault}
 use Rattle.http_front.specs.declared.answers.FrontFault.TheVariants as fault
 use Rattle.http_front.specs.declared.answers.Next.TheVariants as next
-use Rattle.http_front.specs.Requests.{RequestText, print_text, HasLength, IsComplete, raw_of, BeginsWithNone}
-use Rattle.http_front.specs.Reads.{Reads, Counts, Answers, IsNotBuilt}
+use Rattle.http_front.specs.Requests.{HasLength, IsComplete, raw_of}
+use Rattle.http_front.specs.Reads.{Reads, Counts}
 use Rattle.namespace_model.specs.declared.request.Request.{Request}
 use Rattle.namespace_model.specs.declared.request.Entry.{Entry}
 use Rattle.engine.specs.declared.end.End.{End}
@@ -23,7 +23,7 @@ use Rattle.engine.specs.Decoded.{decoded}
 use Rattle.engine.specs.Answered.{Answered}
 use Rattle.engine.specs.Journal.{JournalView}
 use Rattle.engine.specs.Refuses.{Refuses}
-use Rattle.engine.specs.Served.{Served, TakesRequests, IsPlaced, ArePlaced, IsWritten, Writes, Ends, EndsDone, Forces, ReadCounts, last_text}
+use Rattle.engine.specs.Served.{Served, TakesRequests, IsPlaced, ArePlaced, IsWritten, Writes, Ends, Forces, ReadCounts, last_text}
 use Rattle.engine.specs.Submits.{texts_of, texts_past}
 use Rattle.engine.specs.Written.{BreaksOff}
 use Rattle.engine.proofs.DecodedLemmas.{decoded-close}

@@ -1,8 +1,7 @@
 -- How the list of filesystems follows the tree.
-use Rattle.std.proofs.Common.{◌≡◌, ℕ, ◌≤◌, Bool, true, false, cond, ◌||◌, List, [], ◌∷◌, ◌++◌, Some, None, Option, is_some, refl, sym, ap, ◌∙◌, bytes_eq}
+use Rattle.std.proofs.Common.{◌≡◌, ℕ, Bool, true, false, cond, ◌||◌, List, [], ◌∷◌, ◌++◌, Some, None, Option, is_some, refl, sym, ap, ◌∙◌, bytes_eq}
 use Rattle.std.specs.FinMap as fin
 use Rattle.std.specs.FinMap.{get-insert, get-empty}
-use Rattle.std.specs.List.{list_any}
 use Rattle.std.proofs.Common.{slice_get, length, ◌+◌}
 use Rattle.std.specs.Ordering.{is_eq, eq_by_cmp, nat_cmp, ordering_then}
 use Rattle.std.specs.declared.cmp.Ordering.{Ordering}
@@ -12,11 +11,10 @@ use Rattle.std.proofs.lemmas.List.Folds.{list_any-append}
 use Rattle.std.proofs.lemmas.Map.Text.{is_eq-slice_cmp}
 use Rattle.path_text.specs.Paths.{path_cmp, path_cmp_total}
 use Rattle.namespace_model.specs.Tree.{Node, Tree, has, opening_tree}
-use Rattle.namespace_model.specs.declared.request.Op.{Op}
-use Rattle.namespace_model.specs.declared.request.Op.TheVariants.{CreateFilesystem, Refused}
+use Rattle.namespace_model.specs.declared.request.Op.TheVariants.{CreateFilesystem}
 use Rattle.namespace_model.specs.declared.request.Entry.{Entry}
-use Rattle.namespace_model.specs.Filesystems.{Outcome, created_reply, create_filesystem}
-use Rattle.namespace_model.specs.Run.{act, tree_of}
+use Rattle.namespace_model.specs.Filesystems.{created_reply, create_filesystem}
+use Rattle.namespace_model.specs.Run.{tree_of}
 use Rattle.namespace_model.specs.Sound.{IsRoot}
 use Rattle.namespace_model.proofs.Runs.{tree_push, tree_of-nil}
 use Rattle.engine.specs.declared.draft.Draft.{Draft}

@@ -1,8 +1,7 @@
 -- The request of a raw one. At this stage filesystems are made; every other request is answered that it is not built.
-use Rattle.std.specs.Prelude.{ℕ, ◌-◌, Bool, ◌&&◌, ◌||◌, ◌==◌, false, nat_le, List, [], ◌∷◌, ◌++◌, length, take, drop, codes, bytes_eq, count_by, Option, Some, None, option_and_then, if◌then◌else◌}
+use Rattle.std.specs.Prelude.{ℕ, ◌-◌, Bool, ◌&&◌, ◌||◌, ◌==◌, false, nat_le, List, [], ◌∷◌, length, take, drop, codes, bytes_eq, count_by, Option, Some, None, option_and_then, if◌then◌else◌}
 use Rattle.std.specs.List.{list_all, list_any}
 use Rattle.std.specs.Char.{is_ascii_alphanumeric}
-use Rattle.std.specs.Str.{str_eq_ignore_ascii_case}
 use Rattle.acl_text.specs.Ids.{superuser}
 use Rattle.path_text.specs.Names.{is_fs_name}
 use Rattle.http_front.specs.declared.raw.Raw.{Raw}

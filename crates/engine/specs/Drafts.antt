@@ -1,5 +1,5 @@
 -- What is worked out for a request before it is put into the journal.
-use Rattle.std.specs.Prelude.{◌≡◌, ℕ, List, ◌++◌, Option}
+use Rattle.std.specs.Prelude.{◌≡◌, ℕ, List, ◌++◌}
 use Rattle.std.specs.Option.{option_to_list}
 use Rattle.namespace_model.specs.declared.request.Op.{Op}
 use Rattle.namespace_model.specs.Tree.{Tree}

@@ -1,12 +1,11 @@
 -- The date of a second is the one whose numbers the definition gives.
-use Rattle.std.proofs.Common.{◌≡◌, ℕ, zero, suc, ◌+◌, ◌-◌, ◌*◌, ◌/◌, ◌%◌, ◌<◌, ◌≤◌, ◌⊎◌, Bool, true, false, leb, cond, List, refl, sym, ap, ◌∙◌, arith, inl, inr}
+use Rattle.std.proofs.Common.{◌≡◌, ℕ, zero, suc, ◌+◌, ◌-◌, ◌*◌, ◌/◌, ◌%◌, ◌<◌, ◌≤◌, Bool, true, false, leb, cond, refl, sym, ap, ◌∙◌, arith, inl, inr}
 use Rattle.std.proofs.lemmas.Bool.{leb-true, leb-false}
 use Rattle.std.proofs.Math.Nat.{eq-or-lt_of_le}
 use Rattle.httpdate.specs.declared.date.HttpDate.{HttpDate}
 use Rattle.httpdate.specs.Calendar.{days_of_years, days_of_months, days_in_year, days_in_month, days_from_civil, weekday}
 use Rattle.httpdate.specs.Date.{unix_secs, date_text}
-use Rattle.httpdate.specs.Text.{imf_fixdate}
-use Rattle.httpdate.specs.Valid.{IsValid, is_valid, parts_secs}
+use Rattle.httpdate.specs.Valid.{IsValid, parts_secs}
 use Rattle.httpdate.proofs.CalendarLemmas.{days_of_years_closed, days_of_months_all}
 use Rattle.httpdate.proofs.ValidLemmas.{is_valid_complete}
 use Rattle.httpdate.proofs.Theorems.{date_text_is}

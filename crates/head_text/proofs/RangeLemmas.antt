@@ -1,5 +1,5 @@
 -- A text is read as a range exactly where it spells it.
-use Rattle.std.proofs.Common.{rules, is_some, ◌≡◌, ℕ, suc, ◌+◌, ◌-◌, ◌<◌, ◌≤◌, Bool, true, false, cond, not, ltb, ◌&&◌, nat_le, bytes_eq, List, [], ◌∷◌, ◌++◌, length, ◌==◌, take, drop, get_or, Option, None, Some, IfSome, refl, sym, ap, subst, ◌∙◌, arith, length-append, append_assoc}
+use Rattle.std.proofs.Common.{rules, is_some, ◌≡◌, ℕ, suc, ◌+◌, ◌<◌, ◌≤◌, Bool, true, false, cond, ltb, ◌&&◌, nat_le, bytes_eq, List, [], ◌∷◌, ◌++◌, length, ◌==◌, take, drop, get_or, Option, None, Some, IfSome, refl, sym, ap, subst, ◌∙◌, arith, length-append}
 use Rattle.std.specs.Char.{is_ascii_digit}
 use Rattle.std.specs.Int.{IsInRange}
 use Rattle.std.specs.List.{list_all, position, position_or_len}

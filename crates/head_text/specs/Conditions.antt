@@ -1,5 +1,5 @@
 -- Conditions of a request on a node (RFC 9110, section 13), by the node's number, which its entity tag shows, and its moment.
-use Rattle.std.specs.Prelude.{◌≡◌, ℕ, ◌/◌, Bool, true, false, not, ◌||◌, ◌==◌, nat_le, List, Option, Some, None, Result, Ok, Err, if◌then◌else◌}
+use Rattle.std.specs.Prelude.{ℕ, ◌/◌, Bool, true, false, not, ◌||◌, ◌==◌, nat_le, List, Option, Some, None}
 use Rattle.std.specs.List.{list_any}
 
 -- what a contract sees of a list of entity tags

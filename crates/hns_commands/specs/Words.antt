@@ -1,5 +1,5 @@
 -- The words of a command.
-use Rattle.std.specs.Prelude.{ℕ, Bool, false, List, [], ◌∷◌, bytes_eq, codes, String, string_bytes}
+use Rattle.std.specs.Prelude.{Bool, false, List, [], ◌∷◌, bytes_eq, codes, String, string_bytes}
 use Rattle.std.specs.declared.alloc.Global.{Global}
 
 -- the one word `pipe`

@@ -1,7 +1,6 @@
 -- One entry more at the end of a journal.
-use Rattle.std.proofs.Common.{◌≡◌, ℕ, suc, ◌+◌, List, [], ◌∷◌, ◌++◌, length, refl, sym, ap, arith}
+use Rattle.std.proofs.Common.{◌≡◌, ℕ, suc, ◌+◌, List, [], ◌∷◌, ◌++◌, length, refl, ap, arith}
 use Rattle.namespace_model.specs.declared.request.Entry.{Entry}
-use Rattle.namespace_model.specs.declared.reply.Reply.{Reply}
 use Rattle.namespace_model.specs.Tree.{Tree, opening_tree}
 use Rattle.namespace_model.specs.Run.{step, tree_from, replies_from, tree_of, replies_of}
 

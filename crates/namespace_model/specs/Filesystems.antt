@@ -1,9 +1,8 @@
 -- The calls on filesystems.
-use Rattle.std.specs.Prelude.{◌≡◌, ℕ, List, [], ◌∷◌, Option, Some, None, if◌then◌else◌}
+use Rattle.std.specs.Prelude.{ℕ, List, [], ◌∷◌, Some, None, if◌then◌else◌}
 use Rattle.std.specs.FinMap as fin
 use Rattle.namespace_model.specs.declared.code.Code.{Code}
 use Rattle.namespace_model.specs.declared.code.Code.TheVariants.{FilesystemAlreadyExists}
-use Rattle.namespace_model.specs.declared.reply.Field.{Field}
 use Rattle.namespace_model.specs.declared.reply.Field.TheVariants.{ETag, LastModified}
 use Rattle.namespace_model.specs.declared.reply.Reply.{Reply}
 use Rattle.namespace_model.specs.Codes.{status_of}

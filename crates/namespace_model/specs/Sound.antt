@@ -1,5 +1,5 @@
 -- What every decoded request keeps.
-use Rattle.std.specs.Prelude.{◌≡◌, ℕ, ⊤, Bool, true, List, [], ◌∷◌, length, IsTrue, IsSome, Option}
+use Rattle.std.specs.Prelude.{◌≡◌, ℕ, ⊤, true, List, [], ◌∷◌, IsSome, Option}
 use Rattle.path_text.specs.Names.{is_fs_name}
 use Rattle.namespace_model.specs.declared.code.Code.{Code}
 use Rattle.namespace_model.specs.declared.code.Code.TheVariants.{InvalidResourceName, InvalidInput, FilesystemAlreadyExists, NotBuiltYet}

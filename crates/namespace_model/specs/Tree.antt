@@ -1,5 +1,5 @@
 -- The tree of the namespace.
-use Rattle.std.specs.Prelude.{◌≡◌, ◌≢◌, ℕ, List, [], Option, Some, None, Bool}
+use Rattle.std.specs.Prelude.{ℕ, List, [], Option, Bool}
 use Rattle.std.specs.FinMap as fin
 use Rattle.std.specs.FinMap.{FinMap}
 use Rattle.path_text.specs.Paths.{path_cmp}

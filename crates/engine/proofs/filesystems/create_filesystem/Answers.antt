@@ -1,4 +1,4 @@
-use Rattle.std.proofs.Common.{ap, ◌∙◌, Some, sym, refl, rules}
+use Rattle.std.proofs.Common.{ap, Some, rules}
 use Rattle.engine.proofs.StandsLemmas.{root_is, is_made}
 use Rattle.engine.proofs.filesystems.create_filesystem.Goals as goal
 

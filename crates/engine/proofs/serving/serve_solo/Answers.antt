@@ -1,4 +1,4 @@
-use Rattle.std.proofs.Common.{◌≡◌, ◌<◌, refl, sym, ap, ◌∙◌, Ok, arith}
+use Rattle.std.proofs.Common.{◌≡◌, ◌<◌, refl, ap, ◌∙◌, arith}
 use Rattle.engine.specs.Journal.{JournalView}
 use Rattle.engine.specs.Limits.{LimitNumbers}
 use Rattle.engine.proofs.CompleteLemmas.{completes}

@@ -1,4 +1,4 @@
-use Rattle.std.proofs.Common.{ap, ◌∙◌, arith}
+use Rattle.std.proofs.Common.{ap, ◌∙◌}
 use Rattle.head_text.specs.DateText.{http_date}
 use Rattle.head_text.proofs.Dates.{date_text-http_date}
 use Rattle.head_text.proofs.date.date_text.Goals as goal

@@ -1,4 +1,4 @@
-use Rattle.std.proofs.Common.{◌≡◌, ℕ, length}
+use Rattle.std.proofs.Common.{◌≡◌, length}
 use Rattle.conn_io.specs.Memory.{bytes_left}
 use Rattle.conn_io.proofs.memory.BytesIn.advance.Given as goal
 

@@ -1,4 +1,4 @@
-use Rattle.std.proofs.Common.{◌≡◌, ℕ, ◌+◌, [], ◌∷◌, ◌++◌, length, append-nil, refl, sym, ap, ◌∙◌}
+use Rattle.std.proofs.Common.{◌≡◌, ℕ, ◌+◌, [], ◌∷◌, ◌++◌, length, append-nil, refl, ap, ◌∙◌}
 use Rattle.namespace_model.specs.declared.request.Entry.{Entry}
 use Rattle.engine.specs.Journal.{JournalView}
 use Rattle.engine.specs.ReplyText.{reply_text}

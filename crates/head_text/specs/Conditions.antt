@@ -13,24 +13,24 @@ is_listed tags number = tags.any || list_any (λ n. n == number) tags.numbers
 
 -- If-Match: the node is there and listed
 abbrev pub match_holds : Option Tags → Option (ℕ × ℕ) → Bool
-match_holds None node = true
+match_holds None _ = true
 match_holds (Some tags) None = false
 match_holds (Some tags) (Some node) = is_listed tags node.0
 
 -- If-Unmodified-Since: the node isn't there, or its whole second is at most the date's
 abbrev pub unmodified_holds : Option ℕ → Option (ℕ × ℕ) → Bool
-unmodified_holds None node = true
+unmodified_holds None _ = true
 unmodified_holds (Some date) None = true
 unmodified_holds (Some date) (Some node) = nat_le (node.1 / 1000) date
 
 -- If-None-Match: the node isn't there, or isn't listed
 abbrev pub none_match_holds : Option Tags → Option (ℕ × ℕ) → Bool
-none_match_holds None node = true
+none_match_holds None _ = true
 none_match_holds (Some tags) None = true
 none_match_holds (Some tags) (Some node) = not (is_listed tags node.0)
 
 -- If-Modified-Since: the node isn't there, or its whole second is above the date's
 abbrev pub modified_holds : Option ℕ → Option (ℕ × ℕ) → Bool
-modified_holds None node = true
+modified_holds None _ = true
 modified_holds (Some date) None = true
 modified_holds (Some date) (Some node) = not (nat_le (node.1 / 1000) date)

@@ -7,3 +7,4 @@ pub mod RoundTrip
 pub mod GrammarLemmas
 pub mod TokenLemmas
 pub mod LawLemmas
+pub mod TargetLemmas

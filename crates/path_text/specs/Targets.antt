@@ -3,7 +3,7 @@ use Rattle.std.specs.Prelude.{ℕ, ◌+◌, ◌<◌, length, ◌≡◌, Bool, tr
 use Rattle.std.specs.List.{slice_split, before_first, after_first, flat_map, join_with_byte}
 use Rattle.std.specs.Char.{is_ascii_hexdigit, is_ascii_alphabetic, is_ascii_digit}
 use Rattle.percent_encoding.specs.Percent.{percent_encode_byte, percent_decode}
-use Rattle.path_text.specs.Texts.{is_slash, plain_path}
+use Rattle.path_text.specs.Texts.{is_slash, plain_path, KeepsLimits, Spells}
 use Rattle.path_text.specs.declared.fault.PathFault.TheVariants.{BadEscape, EmptyName}
 use Rattle.path_text.specs.declared.fault.TargetStop.{TargetStop}
 use Rattle.path_text.specs.declared.fault.TargetStop.TheVariants.{Fault, BadQuery}
@@ -86,3 +86,13 @@ escaped part = flat_map escaped_byte part
 -- `/`, then the escaped parts with `/` between them
 unfoldable pub written_path : List (List ℕ) → List ℕ
 written_path path = 47 ∷ join_with_byte 47 (map escaped path)
+
+-- a target stands for a path and a query: it begins with `/`; what stands before the first `?` has no bad escape and decodes to a text of the
+-- path, which keeps the limits; and the query behind the `?`, if there is one, has no bad escape and these pairs
+pub record SpellsTarget (target : List ℕ) (path : List (List ℕ)) (query : List (List ℕ × List ℕ)) : Type 0 where
+  pub slash : is_slash (slice_index target 0) ≡ true
+  pub path_escapes : bad_escape (path_piece target) ≡ None
+  pub limits : KeepsLimits path
+  pub spelled : Spells (percent_decode (path_piece target)) path
+  pub query_escapes : has_bad_query (query_piece target) ≡ false
+  pub pairs : query ≡ query_pairs (query_piece target)

@@ -1,0 +1,106 @@
+-- A target is read exactly where it spells a path and a query.
+use Rattle.std.proofs.Common.{◌≡◌, ℕ, Bool, true, false, cond, List, [], ◌∷◌, get_or, take, drop, Option, Some, None, Result, Ok, Err, All, refl, sym, ap, ◌∙◌, arith}
+use Rattle.std.specs.List.{list_all, position_or_len}
+use Rattle.std.proofs.lemmas.Bool.Decides.{nat_tests}
+use Rattle.std.proofs.lemmas.List.{take-append-drop}
+use Rattle.std.proofs.lemmas.List.Elements.{All-cons}
+use Rattle.std.proofs.lemmas.List.Folds.{list_all-append}
+use Rattle.percent_encoding.specs.Percent.{percent_decode}
+use Rattle.percent_encoding.proofs.PercentLemmas.{IsByte, All-percent_decode}
+use Rattle.path_text.specs.declared.fault.TargetStop.{TargetStop}
+use Rattle.path_text.specs.declared.fault.TargetStop.TheVariants.{Fault, BadQuery}
+use Rattle.path_text.specs.declared.fault.PathFault.TheVariants.{EmptyName}
+use Rattle.path_text.specs.Texts.{is_byte, is_slash, plain_path}
+use Rattle.path_text.specs.Targets.{SpellsTarget, bad_escape, has_bad_query, is_question_mark, path_piece, query_piece, query_pairs, target_parts, target_path, unless_escape_is_bad, with_query}
+use Rattle.path_text.proofs.WrittenLemmas.{both_parts}
+use Rattle.path_text.proofs.GrammarLemmas.{path_is_spelled}
+use Rattle.path_text.proofs.ReadLemmas.{spelled_is_read}
+use Rattle.path_text.proofs.TokenLemmas.{all_bytes}
+
+-- ---- bytes decode to bytes
+
+byte_below : (b : ℕ) → is_byte b ≡ true → IsByte b
+byte_below b e = grind (arith, nat_tests)
+
+each_byte : (text : List ℕ) → list_all is_byte text ≡ true → All IsByte text
+each_byte [] e = λ i d within. absurd (omega arith)
+each_byte (b ∷ text) e =
+    let parts = both_parts (is_byte b) (list_all is_byte text) e in
+    All-cons IsByte b text (byte_below b parts.0) (each_byte text parts.1)
+
+front_bytes : (text : List ℕ) (n : ℕ) → list_all is_byte text ≡ true → list_all is_byte (take n text) ≡ true
+front_bytes text n e =
+    (both_parts (list_all is_byte (take n text)) (list_all is_byte (drop n text))
+    (sym (list_all-append is_byte (take n text) (drop n text)) ∙ ap (list_all is_byte) (take-append-drop n text) ∙ e)).0
+
+piece_bytes : (target : List ℕ) → list_all is_byte target ≡ true → list_all is_byte (percent_decode (path_piece target)) ≡ true
+piece_bytes target e =
+    let decoded = All-percent_decode (path_piece target) (each_byte (path_piece target) (front_bytes target (position_or_len is_question_mark target) e)) in
+    all_bytes (percent_decode (path_piece target)) (λ i within. decoded i 0 within)
+
+-- ---- what is spelled is read
+
+spelled_path : (target : List ℕ) (path : List (List ℕ)) (query : List (List ℕ × List ℕ)) → SpellsTarget target path query → target_path target ≡ Ok path
+unfolding target_path
+spelled_path target path query is =
+    rw (is.slash, is.path_escapes) (spelled_is_read (percent_decode (path_piece target)) path is.limits is.spelled)
+
+pub spelled_target_is_read : (target : List ℕ) (path : List (List ℕ)) (query : List (List ℕ × List ℕ)) → SpellsTarget target path query → target_parts target ≡ Ok (path, query)
+unfolding target_parts
+spelled_target_is_read target path query is =
+    ap (λ (r : Result (List (List ℕ)) TargetStop). with_query r (query_piece target)) (spelled_path target path query is)
+    ∙ ap (λ b. cond b (Err BadQuery) (Ok (path, query_pairs (query_piece target)))) is.query_escapes
+    ∙ ap (λ q. Ok (path, q)) (sym is.pairs)
+
+-- ---- what is read is spelled
+
+abbrev Answer : Type 0
+Answer = Result (List (List ℕ) × List (List ℕ × List ℕ)) TargetStop
+
+abbrev path_in : Answer → List (List ℕ)
+path_in (Ok read) = read.0
+path_in (Err stop) = []
+
+abbrev query_in : Answer → List (List ℕ × List ℕ)
+query_in (Ok read) = read.1
+query_in (Err stop) = []
+
+chosen : (b : Bool) (read path : List (List ℕ)) (pairs query : List (List ℕ × List ℕ)) → ◌≡◌ {A = Answer} (cond b (Err BadQuery) (Ok (read, pairs))) (Ok (path, query)) →
+    (b ≡ false) × (read ≡ path) × (query ≡ pairs)
+chosen true read path pairs query e = cc
+chosen false read path pairs query e = (refl, ap path_in e, sym (ap query_in e))
+
+read_query : (r : Result (List (List ℕ)) TargetStop) (piece : Option (List ℕ)) (path : List (List ℕ)) (query : List (List ℕ × List ℕ)) → with_query r piece ≡ Ok (path, query) →
+    (r ≡ Ok path) × (has_bad_query piece ≡ false) × (query ≡ query_pairs piece)
+read_query (Err stop) piece path query e = cc
+read_query (Ok read) None path query e =
+    let same = chosen false read path (query_pairs None) query e in
+    (ap (λ p. Ok p) same.1, same.0, same.2)
+read_query (Ok read) (Some piece) path query e =
+    let same = chosen (has_bad_query (Some piece)) read path (query_pairs (Some piece)) query e in
+    (ap (λ p. Ok p) same.1, same.0, same.2)
+
+read_escape : (o : Option ℕ) (r : Result (List (List ℕ)) TargetStop) (path : List (List ℕ)) → unless_escape_is_bad o r ≡ Ok path → (o ≡ None) × (r ≡ Ok path)
+read_escape None r path e = (refl, e)
+read_escape (Some at) r path e = cc
+
+read_slash : (b : Bool) (r : Result (List (List ℕ)) TargetStop) (path : List (List ℕ)) → cond b r (Err (Fault (EmptyName 0))) ≡ Ok path → (b ≡ true) × (r ≡ Ok path)
+read_slash true r path e = (refl, e)
+read_slash false r path e = cc
+
+pub target_is_spelled : (target : List ℕ) (path : List (List ℕ)) (query : List (List ℕ × List ℕ)) → list_all is_byte target ≡ true → target_parts target ≡ Ok (path, query) → SpellsTarget target path query
+unfolding target_parts target_path
+target_is_spelled target path query bytes e =
+    let piece = path_piece target in
+    let parts = read_query (target_path target) (query_piece target) path query e in
+    let slash = read_slash (is_slash (get_or target 0 0)) (unless_escape_is_bad (bad_escape piece) (plain_path (percent_decode piece))) path parts.0 in
+    let escapes = read_escape (bad_escape piece) (plain_path (percent_decode piece)) path slash.1 in
+    let spelled = path_is_spelled (percent_decode piece) path (piece_bytes target bytes) escapes.1 in
+    record {
+      slash = slash.0;
+      path_escapes = escapes.0;
+      limits = spelled.0;
+      spelled = spelled.1;
+      query_escapes = parts.1;
+      pairs = parts.2;
+    }

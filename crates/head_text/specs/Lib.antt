@@ -5,3 +5,4 @@ pub mod DateText
 pub mod Conditions
 pub mod ConditionsOf
 pub mod Ranges
+pub mod ETags

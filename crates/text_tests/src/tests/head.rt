@@ -1,5 +1,6 @@
 use head_text::{
-    Conditions, ETagList, Range, Unmet, conditions_hold, date_text, read_date, read_range,
+    Conditions, ETagList, Range, Unmet, conditions_hold, date_text, read_date, read_etags,
+    read_range,
 };
 use std::alloc::{AllocError, Global};
 use std::test::Fail;
@@ -157,5 +158,42 @@ fn the_first_condition_that_fails_is_named(rt: HostRuntime) -> Result<(), Fail> 
     assert_eq!(rt; answer, Err(Unmet::Modified));
     let answer = judged(alloc, None, None, None, None, node)?;
     assert_eq!(rt; answer, Ok(()));
+    Ok(())
+}
+
+#[test]
+fn entity_tags(rt: HostRuntime) -> Result<(), Fail> {
+    let alloc = rt.alloc();
+    for (text, any, numbers) in [
+        ("*", true, [].as_slice()),
+        (" *\t", true, [].as_slice()),
+        ("\"0x0000000000000001\"", false, [1].as_slice()),
+        ("0x00000000000000fF", false, [255].as_slice()),
+        (
+            "W/\"0x0000000000000002\" ,\t0xFFFFFFFFFFFFFFFF",
+            false,
+            [2, 18_446_744_073_709_551_615].as_slice(),
+        ),
+        // Any tag is only the whole text.
+        ("*,0x0000000000000003", false, [3].as_slice()),
+        ("\"*\"", false, [].as_slice()),
+        // One `W/`, both quotes or none, 16 digits, a small `x`.
+        ("W/W/0x0000000000000001", false, [].as_slice()),
+        ("w/0x0000000000000001", false, [].as_slice()),
+        ("\"0x0000000000000001", false, [].as_slice()),
+        ("\"\"0x0000000000000001\"\"", false, [].as_slice()),
+        ("\"", false, [].as_slice()),
+        ("0x000000000000001", false, [].as_slice()),
+        ("0x00000000000000001", false, [].as_slice()),
+        ("0X0000000000000001", false, [].as_slice()),
+        ("0x000000000000000g", false, [].as_slice()),
+        ("\" 0x0000000000000001\"", false, [].as_slice()),
+        ("abc,,0x0000000000000004,", false, [4].as_slice()),
+        ("", false, [].as_slice()),
+    ] {
+        let tags = read_etags(alloc, text.as_bytes())?;
+        assert_eq!(rt; tags.any(), any);
+        assert_eq!(rt; tags.numbers(), numbers);
+    }
     Ok(())
 }

@@ -1,3 +1,11 @@
 pub mod Dates
 pub mod RangeLemmas
 pub mod TagLemmas
+pub mod TagTextLemmas
+pub mod TrimLemmas
+pub mod PropertyAnswers
+pub mod PropertyGrammar
+pub mod PropertyLemmas
+pub mod PropertyOrder
+pub mod PropertyReading
+pub mod PropertyWriting

@@ -6,3 +6,9 @@ pub mod Conditions
 pub mod ConditionsOf
 pub mod Ranges
 pub mod ETags
+pub mod TagTexts
+pub mod Trims
+pub mod Properties
+pub mod PropertyPlaces
+pub mod PropertyStops
+pub mod PropertyTexts

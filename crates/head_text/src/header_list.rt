@@ -44,7 +44,7 @@ impl HeaderList {
     }
 }
 
-fn copy_pairs(
+pub(crate) fn copy_pairs(
     alloc: Global,
     pairs: &[(Vec<u8>, Vec<u8>)],
 ) -> Result<Vec<(Vec<u8>, Vec<u8>)>, AllocError>

@@ -52,7 +52,7 @@ fn is_blank(byte: u8) -> bool
 }
 
 #[tactic(auto, unfolding(crate::specs::ETags::trimmed))]
-fn trimmed(text: &[u8]) -> &[u8]
+pub(crate) fn trimmed(text: &[u8]) -> &[u8]
     ensures { result.now ≡ trimmed text.now }
 {
     without_back(without_front(text))

@@ -1,6 +1,6 @@
 use head_text::{
-    Conditions, ETagList, Range, Unmet, conditions_hold, date_text, read_date, read_etags,
-    read_range,
+    Conditions, ETagList, Props, PropsFault, PropsStop, Range, Unmet, conditions_hold, date_text,
+    read_date, read_etags, read_props, read_range, write_props,
 };
 use std::alloc::{AllocError, Global};
 use std::test::Fail;
@@ -195,5 +195,127 @@ fn entity_tags(rt: HostRuntime) -> Result<(), Fail> {
         assert_eq!(rt; tags.any(), any);
         assert_eq!(rt; tags.numbers(), numbers);
     }
+    Ok(())
+}
+
+fn written(alloc: Global, text: &[u8]) -> Result<Vec<u8>, PropsStop> {
+    let props = read_props(alloc, text)?;
+    let mut out = Vec::new(alloc);
+    write_props(&props.copy(alloc)?, &mut out)?;
+    Ok(out)
+}
+
+#[test]
+fn properties(rt: HostRuntime) -> Result<(), Fail> {
+    for (text, printed) in [
+        ("", ""),
+        ("k=dg==", "k=dg=="),
+        ("a=", "a="),
+        (" \tk=dg== \t", "k=dg=="),
+        // Ascending by the bytes of the names.
+        ("a=,_=,A=,aa=,0=,-=,B_-9=", "-=,0=,A=,B_-9=,_=,a=,aa="),
+        ("b=Yg== ,\ta=YQ==", "a=YQ==,b=Yg=="),
+        // RFC 4648, section 10.
+        (
+            "x=Zm9vYmFy,w=Zm9vYmE=,v=Zm9vYg==,u=Zm9v,t=Zm8=,s=Zg==",
+            "s=Zg==,t=Zm8=,u=Zm9v,v=Zm9vYg==,w=Zm9vYmE=,x=Zm9vYmFy",
+        ),
+    ] {
+        assert_eq!(rt;
+            written(rt.alloc(), text.as_bytes())?.as_slice(),
+            printed.as_bytes()
+        );
+    }
+    Ok(())
+}
+
+#[test]
+fn values_of_properties(rt: HostRuntime) -> Result<(), Fail> {
+    let props = read_props(rt.alloc(), b"b=/+8=,a=Zm9vYmFy".as_slice())?;
+    let pairs = props.pairs();
+    assert_eq!(rt; pairs.len(), 2);
+    assert_eq!(rt; pairs[0].0.as_slice(), b"a".as_slice());
+    assert_eq!(rt; pairs[0].1.as_slice(), b"foobar".as_slice());
+    assert_eq!(rt; pairs[1].0.as_slice(), b"b".as_slice());
+    assert_eq!(rt; pairs[1].1.as_slice(), [255, 239].as_slice());
+    assert!(rt; Props::none(rt.alloc()).pairs().is_empty());
+    Ok(())
+}
+
+fn fault_of(alloc: Global, text: &[u8]) -> Option<PropsStop> {
+    match read_props(alloc, text) {
+        Ok(_) => None,
+        Err(stop) => Some(stop),
+    }
+}
+
+#[test]
+fn faults_of_properties(rt: HostRuntime) -> Result<(), Fail> {
+    for (text, fault) in [
+        ("a", PropsFault::BadPair(0)),
+        (" ", PropsFault::BadPair(0)),
+        ("=YQ==", PropsFault::BadPair(0)),
+        ("a =YQ==", PropsFault::BadPair(0)),
+        ("a.b=YQ==", PropsFault::BadPair(0)),
+        ("\u{e4}=YQ==", PropsFault::BadPair(0)),
+        ("a=YQ==,", PropsFault::BadPair(1)),
+        ("a=YQ==,,b=Yg==", PropsFault::BadPair(1)),
+        // Padding left out, too much of it, bits behind the last byte, another alphabet, a space.
+        ("a=YQ", PropsFault::BadBase64(0)),
+        ("a=YQ=", PropsFault::BadBase64(0)),
+        ("a=YQ===", PropsFault::BadBase64(0)),
+        ("a==", PropsFault::BadBase64(0)),
+        ("a=YR==", PropsFault::BadBase64(0)),
+        ("a=_-8=", PropsFault::BadBase64(0)),
+        ("a= YQ==", PropsFault::BadBase64(0)),
+        ("a=YQ==,b=!", PropsFault::BadBase64(1)),
+        ("a=YQ==,a=YQ==", PropsFault::Twice(1)),
+        ("a=YQ==,b=Yg==,a=", PropsFault::Twice(2)),
+        // The least index first, and at one index the pair, the value, the name.
+        ("a=!,=", PropsFault::BadBase64(0)),
+        ("a=YQ==,a=Yg==,b", PropsFault::Twice(1)),
+        ("a=YQ==,a=!", PropsFault::BadBase64(1)),
+        ("a=YQ==,a.=!", PropsFault::BadPair(1)),
+    ] {
+        assert_eq!(rt;
+            fault_of(rt.alloc(), text.as_bytes()),
+            Some(PropsStop::Fault(fault))
+        );
+    }
+    Ok(())
+}
+
+// So many pairs with names of two letters, each without a value.
+fn many_pairs(alloc: Global, count: u8) -> Result<Vec<u8>, AllocError> {
+    let mut text = Vec::new(alloc);
+    for at in 0..count {
+        if 0 < at {
+            text.push(b',')?;
+        }
+        text.push(b'A' + at / 16)?;
+        text.push(b'a' + at % 16)?;
+        text.push(b'=')?;
+    }
+    Ok(text)
+}
+
+#[test]
+fn at_most_64_properties(rt: HostRuntime) -> Result<(), Fail> {
+    let alloc = rt.alloc();
+    let text = many_pairs(alloc, 64)?;
+    assert_eq!(rt;
+        written(alloc, text.as_slice())?.as_slice(),
+        text.as_slice()
+    );
+    for text in [many_pairs(alloc, 65)?, vec![in alloc; b','; 64]?] {
+        assert_eq!(rt;
+            fault_of(alloc, text.as_slice()),
+            Some(PropsStop::Fault(PropsFault::TooMany))
+        );
+    }
+    assert_eq!(rt;
+        fault_of(alloc, [b','; 63].as_slice()),
+        Some(PropsStop::Fault(PropsFault::BadPair(0)))
+    );
     Ok(())
 }

@@ -1,1 +1,2 @@
 mod machine;
+mod table;

@@ -1,0 +1,14 @@
+pub mod Below
+pub mod Closing
+pub mod GiveExclusive
+pub mod GiveShared
+pub mod JoinSeat
+pub mod Joined
+pub mod MakeSeat
+pub mod Opened
+pub mod NewSeats
+pub mod Shown
+pub mod TakeExclusive
+pub mod TakenOut
+pub mod TakeShared
+pub mod Whole

@@ -1,0 +1,52 @@
+//! Seats, and what they hold.
+ghost use Rattle.std.specs.Prelude.{◌≡◌};
+
+use crate::plan::Plan;
+use crate::rule::LockSeat;
+use lock_core::Parted;
+use std::marker::Model;
+
+/// A seat of a table of locks, which one thread at a time steps with. A contract sees its table, its place there, what it
+/// knows with its slots in hand, and its places for parts.
+#[derive(Drop)]
+pub struct Seat<P: Parted> {
+    pub(crate) seat: LockSeat<P>,
+    pub(crate) room: Vec<Option<P::Part>>,
+}
+
+impl<P: Parted> Model for Seat<P> {
+    ghost use Rattle.path_locks.specs.Views.{SeatView};
+    ghost use Rattle.path_locks.specs.Stands.{Stands};
+
+    ghost Value = { SeatView P.Part P.Entry };
+
+    ghost view = { λ s. record { table = s.seat.table_id; id = s.seat.id; me = s.seat.me; room = s.room.items } };
+
+    ghost invariant = { λ s. Stands P.object s.seat.me.0.at };
+}
+
+/// What a seat holds: a mode for each stripe, and the parts of the stripes that it holds exclusively. A contract sees the
+/// modes, the parts, and how wide the plan was that was taken.
+#[derive(Drop)]
+pub struct Held<P: Parted> {
+    pub(crate) plan: Plan,
+    pub(crate) parts: Vec<Option<P::Part>>,
+    pub(crate) wide: u32,
+}
+
+impl<P: Parted> Model for Held<P> {
+    ghost use Rattle.path_locks.specs.Views.{HeldView};
+
+    ghost Value = { HeldView P.Part };
+
+    ghost view = { λ h. record { modes = h.plan; parts = h.parts.items; wide = h.wide } };
+}
+
+impl<P: Parted> Held<P> {
+    /// The number of stripes that were taken shared, and twice that of those taken exclusively.
+    pub fn wide(&self) -> u32
+        ensures { result ≡ self.now.wide }
+    {
+        self.wide
+    }
+}

@@ -1,5 +1,7 @@
 mod ends;
 mod engine_calls;
 mod first_requests;
+mod model_types;
 mod reader;
+mod same;
 mod texts;

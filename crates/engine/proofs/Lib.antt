@@ -1,4 +1,7 @@
 pub mod StandsLemmas
+pub mod IfOkLemmas
+pub mod DraftLemmas
+pub mod RootLemmas
 pub mod Texts
 pub mod SubmitLemmas
 pub mod WrittenLemmas

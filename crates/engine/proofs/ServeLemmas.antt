@@ -21,7 +21,7 @@ use Rattle.engine.specs.declared.end.End.{End}
 use Rattle.engine.specs.declared.end.End.TheVariants as end
 use Rattle.engine.specs.Decoded.{decoded}
 use Rattle.engine.specs.Answered.{Answered}
-use Rattle.engine.specs.Journal.{JournalView}
+use Rattle.commit_journal.specs.Journal.{JournalView}
 use Rattle.engine.specs.Refuses.{Refuses}
 use Rattle.engine.specs.Served.{Served, TakesRequests, IsPlaced, ArePlaced, IsWritten, Writes, Ends, Forces, ReadCounts, last_text}
 use Rattle.engine.specs.Submits.{texts_of, texts_past}
@@ -198,7 +198,7 @@ module _ (most : ℕ) (left out : Option (List ℕ)) (ahead : Option (ℕ → �
     ticked : HasTicked ahead ahead'' (count + 1)
     count_is : length entries ≡ count + 1
 
-  turn : (left' left'' out' : Option (List ℕ)) (ahead' ahead'' : Option (ℕ → ℕ)) (kept kept' : List ℕ) (now then : JournalView) (count : ℕ) (raw : Raw) (text : List ℕ)
+  turn : (left' left'' out' : Option (List ℕ)) (ahead' ahead'' : Option (ℕ → ℕ)) (kept kept' : List ℕ) (now then : JournalView Entry) (count : ℕ) (raw : Raw) (text : List ℕ)
       → Serving left left' out out' ahead ahead' kept old now.entries count → Reads left' left'' kept kept' (Ok (next.Request raw))
       → Answered now then ahead' ahead'' count raw text → IsTurn left'' kept' then.entries ahead'' count (texts_past old now.entries) text
   turn left' left'' out' ahead' ahead'' kept kept' now then count raw text so_far reads answered =
@@ -222,7 +222,7 @@ module _ (most : ℕ) (left out : Option (List ℕ)) (ahead : Option (ℕ → �
       }
 
   -- its reply did not go out whole
-  pub cut_off : (left' left'' out' out'' : Option (List ℕ)) (ahead' ahead'' : Option (ℕ → ℕ)) (kept kept' : List ℕ) (now then : JournalView) (count : ℕ) (raw : Raw) (text : List ℕ)
+  pub cut_off : (left' left'' out' out'' : Option (List ℕ)) (ahead' ahead'' : Option (ℕ → ℕ)) (kept kept' : List ℕ) (now then : JournalView Entry) (count : ℕ) (raw : Raw) (text : List ℕ)
       → Serving left left' out out' ahead ahead' kept old now.entries count → count < most → Reads left' left'' kept kept' (Ok (next.Request raw))
       → Answered now then ahead' ahead'' count raw text → BreaksOff out' out'' text
       → Served most left left'' out out'' ahead old then.entries count end.WriteFault
@@ -256,7 +256,7 @@ module _ (most : ℕ) (left out : Option (List ℕ)) (ahead : Option (ℕ → �
       }
 
   -- its reply is out, and serving goes on
-  pub next_turn : (left' left'' out' out'' : Option (List ℕ)) (ahead' ahead'' : Option (ℕ → ℕ)) (kept kept' : List ℕ) (now then : JournalView) (count : ℕ) (raw : Raw) (text : List ℕ)
+  pub next_turn : (left' left'' out' out'' : Option (List ℕ)) (ahead' ahead'' : Option (ℕ → ℕ)) (kept kept' : List ℕ) (now then : JournalView Entry) (count : ℕ) (raw : Raw) (text : List ℕ)
       → Serving left left' out out' ahead ahead' kept old now.entries count → Reads left' left'' kept kept' (Ok (next.Request raw))
       → Answered now then ahead' ahead'' count raw text → Appends out' out'' text
       → Serving left left'' out out'' ahead ahead'' kept' old then.entries (count + 1)

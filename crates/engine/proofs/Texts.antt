@@ -2,7 +2,7 @@
 use Rattle.std.proofs.Common.{◌≡◌, ℕ, suc, ◌+◌, List, [], ◌∷◌, ◌++◌, zero, length, slice_get, Some, refl, ap, arith}
 use Rattle.namespace_model.specs.declared.request.Entry.{Entry}
 use Rattle.namespace_model.specs.declared.reply.Reply.{Reply}
-use Rattle.namespace_model.specs.Run.{step, tree_of, replies_of}
+use Rattle.namespace_model.specs.Step.{step, tree_of, replies_of}
 use Rattle.namespace_model.proofs.Runs.{replies_push, length-replies_of}
 use Rattle.engine.specs.ReplyText.{reply_text}
 use Rattle.engine.specs.Submits.{texts_from, texts_of, next_text, SpellsTheRun}

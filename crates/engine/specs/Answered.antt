@@ -6,11 +6,11 @@ use Rattle.std.specs.Prelude.{◌≤◌}
 use Rattle.http_front.specs.declared.raw.Raw.{Raw}
 use Rattle.namespace_model.specs.declared.request.Entry.{Entry}
 use Rattle.engine.specs.Decoded.{decoded}
-use Rattle.engine.specs.Journal.{JournalView}
+use Rattle.commit_journal.specs.Journal.{JournalView}
 use Rattle.engine.specs.Submits.{texts_of}
 
 -- The journal has one entry more, of this request at this place with the clock's next moment, and the text is that of its reply.
-pub record Answered (old new : JournalView) (ahead ahead' : Option (ℕ → ℕ)) (index : ℕ) (raw : Raw) (text : List ℕ) : Type 0 where
+pub record Answered (old new : JournalView Entry) (ahead ahead' : Option (ℕ → ℕ)) (index : ℕ) (raw : Raw) (text : List ℕ) : Type 0 where
   pub entry : Entry
   pub request : entry.request ≡ decoded raw
   pub conn : entry.conn ≡ 0

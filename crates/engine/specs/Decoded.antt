@@ -6,9 +6,11 @@ use Rattle.acl_text.specs.Ids.{superuser}
 use Rattle.path_text.specs.Names.{is_fs_name}
 use Rattle.http_front.specs.declared.raw.Raw.{Raw}
 use Rattle.http_front.specs.Requests.{is_named}
+use Rattle.namespace_model.specs.declared.code.Code.{Code}
 use Rattle.namespace_model.specs.declared.code.Code.TheVariants.{InvalidResourceName, NotBuiltYet}
-use Rattle.namespace_model.specs.declared.request.Op.TheVariants.{CreateFilesystem, Refused}
+use Rattle.namespace_model.specs.declared.op.Op.TheVariants.{CreateFilesystem, Refused}
 use Rattle.namespace_model.specs.declared.request.Request.{Request}
+use Rattle.namespace_model.specs.Built.{no_conditions}
 
 -- a letter, a digit, `.`, `_`, `~` or `-`, which stand in a target without an escape (RFC 3986, section 2.3)
 abbrev pub is_unreserved : ℕ → Bool
@@ -60,16 +62,39 @@ abbrev pub asked_filesystem : Raw → Option (List ℕ)
 asked_filesystem raw =
     if bytes_eq raw.method (codes "PUT") && raw.minor == 1 && are_taken_headers raw.headers then named_filesystem raw.target else None
 
+-- a request that is refused when it is decoded, before the caller is read
+abbrev pub refused_request : Code → Bool → List ℕ → Request
+refused_request code head body = record {
+  caller = None;
+  op = Refused code;
+  cond = no_conditions;
+  lease = None;
+  source_lease = None;
+  head = head;
+  close = false;
+  body = body;
+}
+
+-- the superuser's request to make a filesystem
+abbrev pub making_request : List ℕ → List ℕ → Request
+making_request name body = record {
+  caller = Some (record { id = superuser; groups = [] });
+  op = CreateFilesystem (name ∷ []) None;
+  cond = no_conditions;
+  lease = None;
+  source_lease = None;
+  head = false;
+  close = false;
+  body = body;
+}
+
 -- the name is that of a filesystem, or is refused before the caller is read
 abbrev pub filesystem_request : List ℕ → List ℕ → Request
-filesystem_request name body =
-    if is_fs_name name
-    then record { caller = Some (record { id = superuser }); op = CreateFilesystem (name ∷ []); head = false; close = false; body = body }
-    else record { caller = None; op = Refused InvalidResourceName; head = false; close = false; body = body }
+filesystem_request name body = if is_fs_name name then making_request name body else refused_request InvalidResourceName false body
 
 -- every other request, whose reply to a HEAD has no body
 abbrev pub other_request : List ℕ → List ℕ → Request
-other_request method body = record { caller = None; op = Refused NotBuiltYet; head = bytes_eq method (codes "HEAD"); close = false; body = body }
+other_request method body = refused_request NotBuiltYet (bytes_eq method (codes "HEAD")) body
 
 abbrev pub decoded_for : Option (List ℕ) → Raw → Request
 decoded_for (Some name) raw = filesystem_request name raw.body

@@ -1,5 +1,3 @@
-pub mod Limits
-pub mod Journal
 pub mod ReplyText
 pub mod Decoded
 pub mod Stands

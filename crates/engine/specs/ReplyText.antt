@@ -1,5 +1,5 @@
 -- The bytes of replies (RFC 9112, sections 4 and 6; the names of headers and codes are those of Microsoft's REST reference).
-use Rattle.std.specs.Prelude.{ℕ, ◌/◌, ◌≤◌, Bool, true, false, List, [], ◌∷◌, ◌++◌, ⊤, length, All, codes, decimal, Option, Some, None}
+use Rattle.std.specs.Prelude.{◌≡◌, ℕ, ◌/◌, ◌≤◌, Bool, true, false, List, [], ◌∷◌, ◌++◌, ⊤, length, All, codes, decimal, Option, Some, None}
 use Rattle.std.specs.List.{flat_map}
 use Rattle.conn_io.specs.declared.outside.TheConstants.{LAST_MOMENT}
 use Rattle.http.specs.StatusCode.{status_text, IsStatusCode}
@@ -8,8 +8,8 @@ use Rattle.serde_json.specs.Written.{compact_text}
 use Rattle.head_text.specs.DateText.{http_date}
 use Rattle.head_text.specs.Hex.{hex16}
 use Rattle.namespace_model.specs.declared.code.Code.{Code}
-use Rattle.namespace_model.specs.declared.reply.Field.{Field}
-use Rattle.namespace_model.specs.declared.reply.Field.TheVariants.{ETag, LastModified}
+use Rattle.namespace_model.specs.declared.field.Field.{Field}
+use Rattle.namespace_model.specs.declared.field.Field.TheVariants.{Close, ETag, LastModified}
 use Rattle.namespace_model.specs.declared.reply.Reply.{Reply}
 use Rattle.namespace_model.specs.Codes.{code_text, message_text}
 
@@ -42,11 +42,14 @@ start_lines status moment number =
 unfoldable pub etag_text : ℕ → List ℕ
 etag_text number = codes "\"0x" ++ hex16 number ++ codes "\""
 
--- the line of a field; the entry's own number stands for a number that is left open
+-- The line of a field; the entry's own number stands for a number that is left open. The other fields get their lines with the operations
+-- that reply them.
 unfoldable pub field_line : ℕ → Field → List ℕ
+field_line own Close = line (codes "Connection") (codes "close")
 field_line own (ETag None) = line (codes "ETag") (etag_text own)
 field_line own (ETag (Some number)) = line (codes "ETag") (etag_text number)
 field_line own (LastModified moment) = line (codes "Last-Modified") (moment_text moment)
+field_line own other = []
 
 abbrev pub field_lines : ℕ → List Field → List ℕ
 field_lines own fields = flat_map (field_line own) fields
@@ -90,12 +93,15 @@ last_reply_text code status =
     status_line status ++ line (codes "x-ms-request-id") (hex16 0) ++ line (codes "x-ms-version") (codes "2020-02-10")
     ++ line (codes "Connection") (codes "close") ++ line (codes "x-ms-error-code") (code_text code) ++ end_lines []
 
--- a field whose moment is before the year 10000
-abbrev pub IsInRange : Field → Type 0
-IsInRange (ETag number) = ⊤
-IsInRange (LastModified moment) = moment ≤ LAST_MOMENT
+-- a field that has a line, whose moment is before the year 10000
+abbrev pub HasLine : Field → Type 0
+HasLine Close = ⊤
+HasLine (ETag number) = ⊤
+HasLine (LastModified moment) = moment ≤ LAST_MOMENT
+HasLine other = ⊥
 
--- the status has three digits, and every moment is in range
+-- the status has three digits, every field has a line, and no access was denied
 pub record CanSpell (reply : Reply) : Type 0 where
   pub status : IsStatusCode reply.status
-  pub fields : All IsInRange reply.fields
+  pub fields : All HasLine reply.fields
+  pub not_denied : reply.denied ≡ None

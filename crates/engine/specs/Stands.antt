@@ -1,7 +1,11 @@
 -- What the memory of the sequential engine stands for.
-use Rattle.std.specs.Prelude.{◌≡◌, ℕ, List, [], ◌∷◌, Bool, bytes_eq}
+use Rattle.std.specs.Prelude.{◌≡◌, ℕ, List, [], ◌∷◌, Bool, bytes_eq, is_some}
 use Rattle.std.specs.List.{list_any}
-use Rattle.namespace_model.specs.Tree.{Tree, has}
+use Rattle.namespace_model.specs.Trees.{Path, Tree, at}
+
+-- something stands at the path
+abbrev pub has : Tree → Path → Bool
+has tree path = is_some (at tree path)
 
 -- the list has the name
 abbrev pub has_name : List (List ℕ) → List ℕ → Bool

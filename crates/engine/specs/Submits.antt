@@ -2,9 +2,9 @@
 use Rattle.std.specs.Prelude.{◌≡◌, ℕ, suc, ◌+◌, List, [], ◌∷◌, ◌++◌, length, drop, slice_get, Some}
 use Rattle.namespace_model.specs.declared.request.Entry.{Entry}
 use Rattle.namespace_model.specs.declared.reply.Reply.{Reply}
-use Rattle.namespace_model.specs.Run.{step, tree_of, replies_of}
+use Rattle.namespace_model.specs.Step.{step, tree_of, replies_of}
 use Rattle.engine.specs.declared.solo.Answer.{Answer}
-use Rattle.engine.specs.Journal.{JournalView}
+use Rattle.commit_journal.specs.Journal.{JournalView}
 use Rattle.engine.specs.ReplyText.{reply_text}
 
 -- the texts of replies to entries with numbers from this one on
@@ -33,13 +33,17 @@ abbrev pub texts_past : List Entry → List Entry → List (List ℕ)
 texts_past old new = drop (length old) (texts_of new)
 
 -- The entry is the journal's last; the answer has the text of its reply in the run of the journal, and its number.
-pub record Submits (old new : JournalView) (entry : Entry) (answer : Answer) : Type 0 where
+pub record Submits (old new : JournalView Entry) (entry : Entry) (answer : Answer) : Type 0 where
   pub journal : new.entries ≡ old.entries ++ entry ∷ []
   pub text : texts_of new.entries ≡ texts_of old.entries ++ answer.bytes.items ∷ []
   pub number : answer.receipt.number ≡ length new.entries
   pub rounds : answer.receipt.rounds ≡ 1
 
+-- the bytes of an entry's body
+abbrev pub body_of : Entry → ℕ
+body_of e = length e.request.body
+
 -- a journal with the same entries and limits
-pub record IsUnchanged (old new : JournalView) : Type 0 where
+pub record IsUnchanged (old new : JournalView Entry) : Type 0 where
   pub entries : new.entries ≡ old.entries
   pub limits : new.limits ≡ old.limits

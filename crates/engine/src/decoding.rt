@@ -1,15 +1,16 @@
 ghost use Rattle.std.specs.Prelude.{◌≡◌, [], map, count_by, option_map, IfOk};
 ghost use Rattle.head_text.specs.Headers.{header_of};
 ghost use Rattle.std.specs.List.{list_all};
+ghost use Rattle.namespace_model.specs.Built.{IsBuilt, no_conditions};
 ghost use Rattle.namespace_model.specs.Sound.{IsSound};
-ghost use Rattle.engine.specs.Decoded.{decoded, asked_filesystem, named_filesystem, is_plain_name, are_taken_headers, is_taken_header, is_caller, is_other, is_unreserved, filesystem_request, other_request};
+ghost use Rattle.engine.specs.Decoded.{decoded, asked_filesystem, named_filesystem, is_plain_name, are_taken_headers, is_taken_header, is_caller, is_other, is_unreserved, filesystem_request, other_request, making_request, refused_request};
 
 use acl_text::Id;
 use file_data::SharedPiece;
-use head_text::is_same_name;
+use head_text::{Conditions, is_same_name};
 use http_front::Raw;
-use namespace_model::{Caller, Code, Op, Request};
-use path_text::{Path, read_fs_name};
+use namespace_model::{Caller, Code, IdList, Op, Request};
+use path_text::{FsName, Path, read_fs_name};
 use std::alloc::{AllocError, Global};
 
 /// The request of a raw one. Every raw request has one: a malformed one, or one that is not built, is a refusal. The one error is want
@@ -18,6 +19,7 @@ use std::alloc::{AllocError, Global};
 pub fn decode(alloc: Global, raw: &Raw) -> Result<Request, AllocError>
     ensures value { IfOk result (λ request. request ≡ decoded raw.now) }
     ensures sound { IfOk result (λ request. IsSound request) }
+    ensures built { IfOk result (λ request. IsBuilt request) }
 {
     let body = raw.body.copy()?;
     match asked_filesystem(raw) {
@@ -29,39 +31,66 @@ pub fn decode(alloc: Global, raw: &Raw) -> Result<Request, AllocError>
 fn filesystem_request(alloc: Global, name: &[u8], body: SharedPiece) -> Result<Request, AllocError>
     ensures value { IfOk result (λ request. request ≡ filesystem_request name.now body) }
     ensures sound { IfOk result (λ request. IsSound request) }
+    ensures built { IfOk result (λ request. IsBuilt request) }
 {
     match read_fs_name(alloc, name)? {
-        Some(fs) => Ok(Request {
-            caller: Some(Caller {
-                id: Id::superuser(alloc)?,
-            }),
-            op: Op::CreateFilesystem {
-                path: Path::root(alloc, fs),
-            },
-            head: false,
-            close: false,
-            body,
-        }),
-        None => Ok(Request {
-            caller: None,
-            op: Op::Refused(Code::InvalidResourceName),
-            head: false,
-            close: false,
-            body,
-        }),
+        Some(fs) => making_request(alloc, fs, body),
+        None => Ok(refused_request(Code::InvalidResourceName, false, body)),
     }
+}
+
+fn making_request(alloc: Global, fs: FsName, body: SharedPiece) -> Result<Request, AllocError>
+    ensures { IfOk result (λ request. request ≡ making_request fs body) }
+{
+    Ok(Request {
+        caller: Some(Caller {
+            id: Id::superuser(alloc)?,
+            groups: IdList::new(Vec::new(alloc)),
+        }),
+        op: Op::CreateFilesystem {
+            path: Path::root(alloc, fs),
+            props: None,
+        },
+        cond: no_conditions(),
+        lease: None,
+        source_lease: None,
+        head: false,
+        close: false,
+        body,
+    })
 }
 
 fn other_request(method: &[u8], body: SharedPiece) -> Request
     ensures value { result ≡ other_request method.now body }
     ensures sound { IsSound result }
+    ensures built { IsBuilt result }
+{
+    refused_request(Code::NotBuiltYet, method == b"HEAD".as_slice(), body)
+}
+
+fn refused_request(code: Code, head: bool, body: SharedPiece) -> Request
+    ensures { result ≡ refused_request code head body }
 {
     Request {
         caller: None,
-        op: Op::Refused(Code::NotBuiltYet),
-        head: method == b"HEAD".as_slice(),
+        op: Op::Refused(code),
+        cond: no_conditions(),
+        lease: None,
+        source_lease: None,
+        head,
         close: false,
         body,
+    }
+}
+
+fn no_conditions() -> Conditions
+    ensures { result ≡ no_conditions }
+{
+    Conditions {
+        matches: None,
+        none: None,
+        modified: None,
+        unmodified: None,
     }
 }
 

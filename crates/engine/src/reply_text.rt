@@ -3,7 +3,7 @@ ghost use Rattle.head_text.specs.Hex.{hex16};
 ghost use Rattle.http.specs.StatusCode.{IsStatusCode};
 ghost use Rattle.serde_json.specs.View.{view};
 ghost use Rattle.conn_io.specs.declared.outside.TheConstants.{LAST_MOMENT};
-ghost use Rattle.engine.specs.ReplyText.{line, status_and_phrase, status_line, moment_text, start_lines, etag_text, field_line, field_lines, fault_data, fault_body, code_lines, body_text, end_lines, reply_text, last_reply_text, CanSpell, IsInRange};
+ghost use Rattle.engine.specs.ReplyText.{line, status_and_phrase, status_line, moment_text, start_lines, etag_text, field_line, field_lines, fault_data, fault_body, code_lines, body_text, end_lines, reply_text, last_reply_text, CanSpell, HasLine};
 
 use head_text::{date_text, write_hex16};
 use http::StatusCode;
@@ -132,23 +132,25 @@ fn etag_text(number: u64) -> [u8; 20]
 }
 
 #[tactic(auto, unfolding(crate::specs::ReplyText::field_line))]
-fn put_field_line(out: &mut Vec<u8>, own: u64, field: Field) -> Result<(), AllocError>
-    requires { IsInRange field }
-    ensures { OnOk result (out.new.items ≡ out.old.items ++ field_line own field) }
+fn put_field_line(out: &mut Vec<u8>, own: u64, field: &Field) -> Result<(), AllocError>
+    requires { HasLine field.now }
+    ensures { OnOk result (out.new.items ≡ out.old.items ++ field_line own field.now) }
 {
     match field {
+        Field::Close => put_line(out, b"Connection", b"close"),
         Field::ETag(None) => put_line(out, b"ETag", &etag_text(own)),
-        Field::ETag(Some(number)) => put_line(out, b"ETag", &etag_text(number)),
-        Field::LastModified(moment) => put_line(out, b"Last-Modified", &moment_text(moment)),
+        Field::ETag(Some(number)) => put_line(out, b"ETag", &etag_text(*number)),
+        Field::LastModified(moment) => put_line(out, b"Last-Modified", &moment_text(*moment)),
+        _ => unreachable!(),
     }
 }
 
 fn put_field_lines(out: &mut Vec<u8>, own: u64, fields: &[Field]) -> Result<(), AllocError>
-    requires { All IsInRange fields.now }
+    requires { All HasLine fields.now }
     ensures { OnOk result (out.new.items ≡ out.old.items ++ field_lines own fields.now) }
 {
     for field in fields {
-        put_field_line(out, own, *field)?;
+        put_field_line(out, own, field)?;
     }
     Ok(())
 }

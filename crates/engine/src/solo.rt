@@ -1,8 +1,7 @@
 use super::draft::Draft;
 use super::filesystems::draft_of;
-use super::journal::{Journal, ReserveStop};
-use super::limits::{Full, Limits};
 use super::reply_text::spell;
+use commit_journal::{Full, Journal, Limits, ReserveStop};
 use namespace_model::{Entry, Request};
 use path_text::FsName;
 use std::alloc::{AllocError, Global};
@@ -38,16 +37,17 @@ pub enum SubmitRefusal {
 /// The sequential engine: the namespace in memory, and the journal of all that was asked of it. A contract sees the journal.
 #[derive(Drop)]
 pub struct Solo {
-    journal: Journal,
+    journal: Journal<Entry>,
     filesystems: Vec<FsName>,
 }
 
 impl Model for Solo {
-    ghost use Rattle.engine.specs.Journal.{JournalView};
+    ghost use Rattle.commit_journal.specs.Journal.{JournalView};
+    ghost use Rattle.namespace_model.specs.declared.request.Entry.{Entry};
     ghost use Rattle.engine.specs.Stands.{Stands};
-    ghost use Rattle.namespace_model.specs.Run.{tree_of};
+    ghost use Rattle.namespace_model.specs.Step.{tree_of};
 
-    ghost Value = { JournalView };
+    ghost Value = { JournalView Entry };
 
     ghost view = { λ s. s.journal };
 
@@ -57,9 +57,10 @@ impl Model for Solo {
 impl Solo {
     ghost use Rattle.std.specs.Prelude.{◌≡◌, ◌≤◌, ◌↔◌, [], length, IfOk, OnErr, IsErrOf};
     ghost use Rattle.conn_io.specs.declared.outside.TheConstants.{LAST_MOMENT};
+    ghost use Rattle.namespace_model.specs.Built.{IsBuilt};
     ghost use Rattle.namespace_model.specs.Sound.{IsSound};
-    ghost use Rattle.engine.specs.Journal.{IsFull, IsFullFor, IsWithin};
-    ghost use Rattle.engine.specs.Submits.{Submits, IsUnchanged};
+    ghost use Rattle.commit_journal.specs.Journal.{IsFull, IsFullFor, IsWithin};
+    ghost use Rattle.engine.specs.Submits.{Submits, IsUnchanged, body_of};
 
     /// An engine with an empty journal and the account alone. The one error is want of memory.
     pub fn start(alloc: Global, limits: &Limits) -> Result<Solo, AllocError>
@@ -73,7 +74,7 @@ impl Solo {
     }
 
     /// The journal.
-    pub fn journal(&self) -> &Journal
+    pub fn journal(&self) -> &Journal<Entry>
         ensures { result.now ≡ self.now }
     {
         &self.journal
@@ -90,13 +91,14 @@ impl Solo {
         moment: u64,
     ) -> Result<Answer, SubmitRefusal>
         requires sound { IsSound request }
+        requires built { IsBuilt request }
         requires moment { moment ≤ LAST_MOMENT }
         ensures ok { IfOk result (λ answer. Submits self.old self.new (record { conn = conn; index = index; moment = moment; request = request }) answer) }
         ensures refused { OnErr result (IsUnchanged self.old self.new) }
         ensures limits { self.new.limits ≡ self.old.limits }
-        ensures within { IsWithin self.new }
+        ensures within { IsWithin body_of self.new }
         ensures full { IsErrOf result (SubmitRefusal.Full Full.JournalFull) ↔ IsFull self.old }
-        ensures bytes_full { IsErrOf result (SubmitRefusal.Full Full.JournalBytesFull) ↔ IsFullFor self.old (length request.body) }
+        ensures bytes_full { IsErrOf result (SubmitRefusal.Full Full.JournalBytesFull) ↔ IsFullFor body_of self.old (length request.body) }
     {
         match self.journal.reserve(request.body.bytes().len() as u64) {
             Ok(()) => {}

@@ -3,7 +3,7 @@ use Rattle.std.specs.Prelude.{◌≡◌, ℕ, List, [], Option}
 use Rattle.namespace_model.specs.declared.request.Entry.{Entry}
 use Rattle.engine.specs.declared.end.End.{End}
 use Rattle.engine.specs.declared.end.End.TheVariants.{Done, Spent, CutShort, BadRequest, ReadFault, WriteFault, NoMemory}
-use Rattle.engine.specs.declared.limits.TheConstants.{REQUESTS_MOST}
+use Rattle.commit_journal.specs.declared.limits.TheConstants.{REQUESTS_MOST}
 use Rattle.engine.specs.Served.{Served, ReadCounts, WriteCounts, Completes}
 
 -- the exit status of an end

@@ -2,8 +2,9 @@ ghost use Rattle.std.specs.Prelude.{◌≡◌, ◌↔◌, [], true, false, IfOk}
 ghost use Rattle.hns_commands.specs.Words.{is_pipe};
 ghost use Rattle.hns_commands.specs.Piped.{Piped, status_of_end};
 
+use commit_journal::{BYTES_MOST, JOURNAL_MOST, Limits, REQUESTS_MOST};
 use conn_io::{Clock, Sink, Source};
-use engine::{BYTES_MOST, End, JOURNAL_MOST, Limits, REQUESTS_MOST, Solo, serve_solo};
+use engine::{End, Solo, serve_solo};
 use std::alloc::{AllocError, Global};
 
 /// What the program prints on standard error where its words are no command.

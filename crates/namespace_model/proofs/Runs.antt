@@ -1,8 +1,8 @@
 -- One entry more at the end of a journal.
 use Rattle.std.proofs.Common.{◌≡◌, ℕ, suc, ◌+◌, List, [], ◌∷◌, ◌++◌, length, refl, ap, arith}
 use Rattle.namespace_model.specs.declared.request.Entry.{Entry}
-use Rattle.namespace_model.specs.Tree.{Tree, opening_tree}
-use Rattle.namespace_model.specs.Run.{step, tree_from, replies_from, tree_of, replies_of}
+use Rattle.namespace_model.specs.Trees.{Tree, opening_tree}
+use Rattle.namespace_model.specs.Step.{step, tree_from, replies_from, tree_of, replies_of}
 
 tree_from_push : (t : Tree) (n : ℕ) (es : List Entry) (e : Entry) → tree_from t n (es ++ e ∷ []) ≡ (step (tree_from t n es) e (length es + n)).tree
 unfolding tree_from
@@ -14,10 +14,8 @@ tree_from_push t n (x ∷ es) e =
 replies_from_push : (t : Tree) (n : ℕ) (es : List Entry) (e : Entry)
     → replies_from t n (es ++ e ∷ []) ≡ replies_from t n es ++ (step (tree_from t n es) e (length es + n)).reply ∷ []
 unfolding tree_from replies_from
-replies_from_push t n [] e = let place : 0 + n ≡ n = omega arith in rw place refl
-replies_from_push t n (x ∷ es) e =
-    let place : suc (length es) + n ≡ length es + suc n = omega arith in
-    rw place (ap (λ rs. (step t x n).reply ∷ rs) (replies_from_push (step t x n).tree (suc n) es e))
+replies_from_push t n [] e = refl
+replies_from_push t n (x ∷ es) e = ap (λ rs. (step t x n).reply ∷ rs) (replies_from_push (step t x n).tree (suc n) es e)
 
 -- the tree after one entry more is that of its step, under the number of its place
 pub tree_push : (es : List Entry) (e : Entry) → tree_of (es ++ e ∷ []) ≡ (step (tree_of es) e (length es + 1)).tree

@@ -4,18 +4,29 @@
 //! moment; `step` says what an entry replies on a tree and what tree it leaves, and the run of a journal is its fold from
 //! the opening tree, with numbers from 1. Nothing here runs: a reader who believes these definitions believes the service.
 //!
-//! Definitions: specs/Tree.antt (nodes and trees), specs/Codes.antt (statuses, codes and messages of refusals),
-//! specs/Filesystems.antt (the calls on filesystems), specs/Run.antt (the step, and the run of a journal), specs/Sound.antt
-//! (what every decoded request keeps).
+//! docs/MODEL.md says how to read the definitions, and names the file of each operation.
 #![tactic(auto)]
 
+mod caller;
 mod code;
+mod copying;
+mod denied;
+mod field;
+mod laws;
+mod op;
+mod op_copy;
 mod reply;
 mod request;
 
+pub use caller::{Caller, IdList};
 pub use code::Code;
-pub use reply::{Field, FieldList, Reply};
-pub use request::{Caller, Entry, Op, Request};
-
-#[cfg(test)]
-mod tests;
+pub use denied::{Denied, Refusal, Rule};
+pub use field::{Field, FieldList, Media};
+pub use laws::{
+    denials_name_their_rule, pages_cover_their_course, refusals_change_nothing,
+    renames_move_a_subtree, stamps_are_where_the_operation_stamps, steps_are_closed,
+    steps_are_local, steps_keep_trees, worked_steps,
+};
+pub use op::{BatchChange, Kind, Op};
+pub use reply::Reply;
+pub use request::{Entry, Request};

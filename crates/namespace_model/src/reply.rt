@@ -1,58 +1,10 @@
 ghost use Rattle.std.specs.Prelude.{◌≡◌, IfOk};
 
 use super::code::Code;
+use super::denied::Denied;
+use super::field::FieldList;
 use file_data::Piece;
 use std::alloc::{AllocError, Global};
-use std::marker::Model;
-
-/// A line of a reply that the node or the operation gives.
-#[derive(Clone, Copy, Debug, PartialEq, Eq)]
-pub enum Field {
-    /// The ETag of a node: the number of the entry that last stamped it, `None` for the entry that is answered.
-    ETag(Option<u64>),
-    /// The moment of a node, in milliseconds since 1970.
-    LastModified(u64),
-}
-
-/// The lines of a reply. A contract sees the list of them.
-#[derive(Drop)]
-pub struct FieldList {
-    items: Vec<Field>,
-}
-
-impl Model for FieldList {
-    ghost use Rattle.std.specs.Prelude.{List};
-    ghost use Rattle.namespace_model.specs.declared.reply.Field.{Field};
-
-    ghost Value = { List Field };
-
-    ghost view = { λ f. f.items.items };
-}
-
-impl FieldList {
-    /// Keeps the lines that it is given.
-    pub fn new(items: Vec<Field>) -> FieldList
-        ensures { result ≡ items.items }
-    {
-        FieldList { items }
-    }
-
-    /// The lines.
-    pub fn items(&self) -> &[Field]
-        ensures { result.now ≡ self.now }
-    {
-        self.items.as_slice()
-    }
-
-    /// A list of the same lines. The one error is want of memory.
-    pub fn copy(&self, alloc: Global) -> Result<FieldList, AllocError>
-        ensures { IfOk result (λ list. list ≡ self.now) }
-    {
-        Ok(FieldList {
-            items: self.items.as_slice().to_vec(alloc)?,
-        })
-    }
-}
 
 /// What the namespace answers to an entry. The text that spells it has further lines, which follow from these.
 #[derive(Drop)]
@@ -61,9 +13,12 @@ pub struct Reply {
     pub status: u16,
     /// Why the request was refused, where it was.
     pub code: Option<Code>,
+    /// The lines, in the order in which they are written.
     pub fields: FieldList,
     /// The body of a reply that is no refusal.
     pub body: Piece,
+    /// The access that was denied, where one was: exactly where the status is 403.
+    pub denied: Option<Denied>,
 }
 
 impl Reply {
@@ -76,6 +31,16 @@ impl Reply {
             code: self.code,
             fields: self.fields.copy(alloc)?,
             body: self.body.copy(alloc)?,
+            denied: copy_denied(alloc, &self.denied)?,
         })
+    }
+}
+
+fn copy_denied(alloc: Global, denied: &Option<Denied>) -> Result<Option<Denied>, AllocError>
+    ensures { IfOk result (λ copied. copied ≡ denied.now) }
+{
+    match denied {
+        Some(denied) => Ok(Some(denied.copy(alloc)?)),
+        None => Ok(None),
     }
 }

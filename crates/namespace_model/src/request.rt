@@ -1,50 +1,11 @@
 ghost use Rattle.std.specs.Prelude.{◌≡◌, IfOk};
 
-use super::code::Code;
-use acl_text::Id;
+use super::caller::Caller;
+use super::op::Op;
 use file_data::SharedPiece;
-use path_text::Path;
+use head_text::Conditions;
+use lock_core::Bodied;
 use std::alloc::{AllocError, Global};
-
-/// Who sent a request.
-#[derive(Drop)]
-pub struct Caller {
-    pub id: Id,
-}
-
-impl Caller {
-    /// An equal caller. The one error is want of memory.
-    pub fn copy(&self, alloc: Global) -> Result<Caller, AllocError>
-        ensures { IfOk result (λ caller. caller ≡ self.now) }
-    {
-        Ok(Caller {
-            id: self.id.copy(alloc)?,
-        })
-    }
-}
-
-/// What a request asks for.
-#[derive(Drop)]
-pub enum Op {
-    /// Make a filesystem. The path is its root.
-    CreateFilesystem { path: Path },
-    /// Nothing: the request was refused when it was decoded.
-    Refused(Code),
-}
-
-impl Op {
-    /// An equal operation. The one error is want of memory.
-    pub fn copy(&self, alloc: Global) -> Result<Op, AllocError>
-        ensures { IfOk result (λ op. op ≡ self.now) }
-    {
-        match self {
-            Op::CreateFilesystem { path } => Ok(Op::CreateFilesystem {
-                path: path.copy(alloc)?,
-            }),
-            Op::Refused(code) => Ok(Op::Refused(*code)),
-        }
-    }
-}
 
 /// A request as it was decoded.
 #[derive(Drop)]
@@ -52,6 +13,12 @@ pub struct Request {
     /// Who sent it; none exactly where it was refused before the caller was read.
     pub caller: Option<Caller>,
     pub op: Op,
+    /// What it asks of the node before it does its work.
+    pub cond: Conditions,
+    /// The lease id that it gives.
+    pub lease: Option<u128>,
+    /// The lease id that it gives for the source of a rename.
+    pub source_lease: Option<u128>,
     /// Whether the method is HEAD, whose reply has no body.
     pub head: bool,
     /// Whether the connection ends with the reply.
@@ -68,6 +35,9 @@ impl Request {
         Ok(Request {
             caller: copy_caller(alloc, &self.caller)?,
             op: self.op.copy(alloc)?,
+            cond: self.cond.copy(alloc)?,
+            lease: self.lease,
+            source_lease: self.source_lease,
             head: self.head,
             close: self.close,
             body: self.body.copy()?,
@@ -105,5 +75,21 @@ impl Entry {
             moment: self.moment,
             request: self.request.copy(alloc)?,
         })
+    }
+}
+
+impl Bodied for Entry {
+    ghost use Rattle.std.specs.Prelude.{length};
+
+    ghost body = { λ entry. length entry.request.body };
+
+    ghost uses = { λ entry. 0 };
+
+    fn body_len(&self) -> u64 {
+        self.request.body.bytes().len() as u64
+    }
+
+    fn uses_len(&self) -> u8 {
+        0
     }
 }

@@ -1,6 +1,7 @@
 use super::texts::{CREATE, CREATED, EXISTS, LAST};
+use commit_journal::Limits;
 use conn_io::{BytesIn, BytesOut, FixedClock};
-use engine::{End, Limits, Solo, serve_solo};
+use engine::{End, Solo, serve_solo};
 use http_front::BadHttp;
 use std::alloc::{AllocError, Global};
 use std::test::Fail;

@@ -20,6 +20,10 @@ pub const NAMED_BADLY: &[u8] =
 pub const NOT_BUILT: &[u8] =
     b"HTTP/1.1 501 Not Implemented\r\nDate: Thu, 01 Jan 1970 00:00:00 GMT\r\nx-ms-request-id: 0000000000000001\r\nx-ms-version: 2020-02-10\r\nContent-Type: application/json\r\nx-ms-error-code: NotBuiltYet\r\nContent-Length: 76\r\n\r\n{\"error\":{\"code\":\"NotBuiltYet\",\"message\":\"The operation is not built yet.\"}}";
 
+// The same where the request ends its connection.
+pub const NOT_BUILT_CLOSING: &[u8] =
+    b"HTTP/1.1 501 Not Implemented\r\nDate: Thu, 01 Jan 1970 00:00:00 GMT\r\nx-ms-request-id: 0000000000000001\r\nx-ms-version: 2020-02-10\r\nConnection: close\r\nContent-Type: application/json\r\nx-ms-error-code: NotBuiltYet\r\nContent-Length: 76\r\n\r\n{\"error\":{\"code\":\"NotBuiltYet\",\"message\":\"The operation is not built yet.\"}}";
+
 // The reply to a HEAD that is not built: no body, and no type of one.
 pub const NOT_BUILT_HEAD: &[u8] =
     b"HTTP/1.1 501 Not Implemented\r\nDate: Thu, 01 Jan 1970 00:00:00 GMT\r\nx-ms-request-id: 0000000000000001\r\nx-ms-version: 2020-02-10\r\nx-ms-error-code: NotBuiltYet\r\nContent-Length: 0\r\n\r\n";

@@ -1,6 +1,7 @@
 use Rattle.std.proofs.Common.{◌≡◌, ◌<◌, refl, ap, ◌∙◌, arith}
-use Rattle.engine.specs.Journal.{JournalView}
-use Rattle.engine.specs.Limits.{LimitNumbers}
+use Rattle.namespace_model.specs.declared.request.Entry.{Entry}
+use Rattle.commit_journal.specs.Journal.{JournalView}
+use Rattle.commit_journal.specs.Limits.{LimitNumbers}
 use Rattle.engine.proofs.CompleteLemmas.{completes}
 use Rattle.engine.proofs.ServeLemmas.{fault_reads, serving-start, spent, done, refused, out_of_memory, cut_off, next_turn, no_body}
 use Rattle.engine.proofs.serving.serve_solo.Goals as goal
@@ -16,7 +17,7 @@ serving-init g c = record {
 
 pub returns-in-Ok-Ended-clause-served : goal.returns-in-Ok-Ended-clause-served
 returns-in-Ok-Ended-clause-served g c =
-    let most_is = c.requests_max-most.ensures.value ∙ ap (λ (l : LimitNumbers). l.requests_max) (c.limits.ensures ∙ ap (λ (j : JournalView). j.limits) c.journal.ensures) in
+    let most_is = c.requests_max-most.ensures.value ∙ ap (λ (l : LimitNumbers). l.requests_max) (c.limits.ensures ∙ ap (λ (j : JournalView Entry). j.limits) c.journal.ensures) in
     let short : c.serving.index < c.args.solo.now.limits.requests_max = rw (← most_is) c.serving-test.true in
     let reads = rw (c.in-Ok-Ended.is, c.in-Ok-Ended.field-0-is) at (c.next.ensures.answered c.serving.invariant.not_over) in
     done c.args.solo.now.limits.requests_max (g.S.Source.left c.args.source.now) (g.K.Sink.out c.args.sink.now) (g.C.Clock.ahead c.args.clock.now) c.args.solo.now.entries
@@ -25,7 +26,7 @@ returns-in-Ok-Ended-clause-served g c =
 
 pub returns-in-Err-clause-served : goal.returns-in-Err-clause-served
 returns-in-Err-clause-served g c =
-    let most_is = c.requests_max-most.ensures.value ∙ ap (λ (l : LimitNumbers). l.requests_max) (c.limits.ensures ∙ ap (λ (j : JournalView). j.limits) c.journal.ensures) in
+    let most_is = c.requests_max-most.ensures.value ∙ ap (λ (l : LimitNumbers). l.requests_max) (c.limits.ensures ∙ ap (λ (j : JournalView Entry). j.limits) c.journal.ensures) in
     let short : c.serving.index < c.args.solo.now.limits.requests_max = rw (← most_is) c.serving-test.true in
     let reads = rw c.in-Err.is at (c.next.ensures.answered c.serving.invariant.not_over) in
     refused c.args.solo.now.limits.requests_max (g.S.Source.left c.args.source.now) (g.K.Sink.out c.args.sink.now) (g.C.Clock.ahead c.args.clock.now) c.args.solo.now.entries
@@ -39,7 +40,7 @@ answer-requires-clause-no_body g c =
 
 pub returns-in-Err-answer-clause-served : goal.returns-in-Err-answer-clause-served
 returns-in-Err-answer-clause-served g c =
-    let most_is = c.requests_max-most.ensures.value ∙ ap (λ (l : LimitNumbers). l.requests_max) (c.limits.ensures ∙ ap (λ (j : JournalView). j.limits) c.journal.ensures) in
+    let most_is = c.requests_max-most.ensures.value ∙ ap (λ (l : LimitNumbers). l.requests_max) (c.limits.ensures ∙ ap (λ (j : JournalView Entry). j.limits) c.journal.ensures) in
     let short : c.serving.index < c.args.solo.now.limits.requests_max = rw (← most_is) c.serving-test.true in
     let reads = rw (c.in-Ok-Request.is, c.in-Ok-Request.field-0-is) at (c.next.ensures.answered c.serving.invariant.not_over) in
     out_of_memory c.args.solo.now.limits.requests_max (g.S.Source.left c.args.source.now) (g.K.Sink.out c.args.sink.now) (g.C.Clock.ahead c.args.clock.now) c.args.solo.now.entries
@@ -48,7 +49,7 @@ returns-in-Err-answer-clause-served g c =
 
 pub returns-in-Err-write_all-clause-served : goal.returns-in-Err-write_all-clause-served
 returns-in-Err-write_all-clause-served g c =
-    let most_is = c.requests_max-most.ensures.value ∙ ap (λ (l : LimitNumbers). l.requests_max) (c.limits.ensures ∙ ap (λ (j : JournalView). j.limits) c.journal.ensures) in
+    let most_is = c.requests_max-most.ensures.value ∙ ap (λ (l : LimitNumbers). l.requests_max) (c.limits.ensures ∙ ap (λ (j : JournalView Entry). j.limits) c.journal.ensures) in
     let short : c.serving.index < c.args.solo.now.limits.requests_max = rw (← most_is) c.serving-test.true in
     let reads = rw (c.in-Ok-Request.is, c.in-Ok-Request.field-0-is) at (c.next.ensures.answered c.serving.invariant.not_over) in
     cut_off c.args.solo.now.limits.requests_max (g.S.Source.left c.args.source.now) (g.K.Sink.out c.args.sink.now) (g.C.Clock.ahead c.args.clock.now) c.args.solo.now.entries
@@ -73,7 +74,7 @@ serving-preserved g c =
 
 pub returns-clause-served : goal.returns-clause-served
 returns-clause-served g c =
-    let most_is = c.requests_max-most.ensures.value ∙ ap (λ (l : LimitNumbers). l.requests_max) (c.limits.ensures ∙ ap (λ (j : JournalView). j.limits) c.journal.ensures) in
+    let most_is = c.requests_max-most.ensures.value ∙ ap (λ (l : LimitNumbers). l.requests_max) (c.limits.ensures ∙ ap (λ (j : JournalView Entry). j.limits) c.journal.ensures) in
     let at : c.serving.index ≡ c.requests_max-most.result = omega (arith, c.serving.auto.index-end) in
     rw (← at) (spent c.args.solo.now.limits.requests_max (g.S.Source.left c.args.source.now) (g.K.Sink.out c.args.sink.now) (g.C.Clock.ahead c.args.clock.now) c.args.solo.now.entries
     (g.S.Source.left c.serving.source) (g.K.Sink.out c.serving.sink) (g.C.Clock.ahead c.serving.clock)

@@ -1,5 +1,5 @@
 use Rattle.std.proofs.Common.{[], inl, refl, lit<}
-use Rattle.engine.specs.declared.limits.TheConstants.{REQUESTS_MOST}
+use Rattle.commit_journal.specs.declared.limits.TheConstants.{REQUESTS_MOST}
 use Rattle.engine.specs.declared.end.End.TheVariants.{NoMemory}
 use Rattle.engine.proofs.ServeLemmas.{not_begun}
 use Rattle.hns_commands.proofs.pipe.run_pipe.Goals as goal

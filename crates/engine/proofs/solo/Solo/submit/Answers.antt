@@ -1,8 +1,8 @@
 use Rattle.std.proofs.Common.{◌≡◌, ℕ, ◌+◌, [], ◌∷◌, ◌++◌, length, append-nil, refl, ap, ◌∙◌}
 use Rattle.namespace_model.specs.declared.request.Entry.{Entry}
-use Rattle.engine.specs.Journal.{JournalView}
+use Rattle.commit_journal.specs.Journal.{JournalView}
 use Rattle.engine.specs.ReplyText.{reply_text}
-use Rattle.engine.proofs.StandsLemmas.{stands_next}
+use Rattle.engine.proofs.DraftLemmas.{stands_next}
 use Rattle.engine.proofs.SubmitLemmas.{submits}
 use Rattle.engine.proofs.solo.Solo.submit.Goals.{in-Some+in-Ok-push, in_default-made}
 use Rattle.engine.proofs.solo.Solo.submit.Goals as goal
@@ -23,11 +23,11 @@ pub returns-clause-ok : goal.returns-clause-ok
 returns-clause-ok c =
     let e : Entry = record { conn = c.args.conn; index = c.args.index; moment = c.args.moment; request = c.args.request } in
     let shown = c.self.view_is in
-    let number : c.len-number.result + 1 ≡ length c.args.self.now.entries + 1 = ap (λ (n : ℕ). n + 1) (c.len-number.ensures.value ∙ ap length c.reserve.ensures.entries ∙ ap (λ (j : JournalView). length j.entries) shown) in
-    let pushed : c.push.new.self.entries ≡ c.args.self.now.entries ++ e ∷ [] = c.push.ensures.entries ∙ ap (λ es. es ++ e ∷ []) (c.reserve.ensures.entries ∙ ap (λ (j : JournalView). j.entries) shown) in
+    let number : c.len-number.result + 1 ≡ length c.args.self.now.entries + 1 = ap (λ (n : ℕ). n + 1) (c.len-number.ensures.value ∙ ap length c.reserve.ensures.entries ∙ ap (λ (j : JournalView Entry). length j.entries) shown) in
+    let pushed : c.push.new.self.entries ≡ c.args.self.now.entries ++ e ∷ [] = c.push.ensures.entries ∙ ap (λ es. es ++ e ∷ []) (c.reserve.ensures.entries ∙ ap (λ (j : JournalView Entry). j.entries) shown) in
     let after : c.match-made.self.entries ≡ c.push.new.self.entries = elim c.match-made.branch [
-      | in-Some+in-Ok-push w ↦ ap (λ (j : JournalView). j.entries) w.self-is
-      | in_default-made w ↦ ap (λ (j : JournalView). j.entries) w.self-is
+      | in-Some+in-Ok-push w ↦ ap (λ (j : JournalView Entry). j.entries) w.self-is
+      | in_default-made w ↦ ap (λ (j : JournalView Entry). j.entries) w.self-is
     ] in
     submits c.args.self.now c.match-made.self e _ c.in-Ok-draft_of.draft c.self.inside.filesystems.items
     (rw (← shown) c.self.invariant) (rw c.as_slice.ensures.value at c.in-Ok-draft_of.ensures) (after ∙ pushed)

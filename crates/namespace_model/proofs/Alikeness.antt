@@ -1,0 +1,190 @@
+-- Two maps that are alike where a step touches the first one: the words of a step one by one.
+use Rattle.std.proofs.Common.{◌≡◌, ◌⊎◌, inl, inr, ℕ, Bool, true, false, List, [], ◌∷◌, ◌++◌, Option, Some, None, is_some, unwrap_or, refl, ap, sym, subst, ◌∙◌, append_assoc}
+use Rattle.std.proofs.lemmas.Bool.{false≢true}
+use Rattle.std.proofs.lemmas.List.{append-nil}
+use Rattle.path_text.specs.Paths.{is_prefix}
+use Rattle.namespace_model.specs.declared.caller.Caller.{Caller}
+use Rattle.namespace_model.specs.declared.code.Code.{Code}
+use Rattle.namespace_model.specs.declared.code.Code.TheVariants.{PathNotFound}
+use Rattle.namespace_model.specs.declared.reply.Reply.{Reply}
+use Rattle.namespace_model.specs.declared.request.Entry.{Entry}
+use Rattle.namespace_model.specs.Nodes.{Node, is_directory, blank}
+use Rattle.namespace_model.specs.Trees.{Path, Tree, at, node_at, parent, keys_where, is_child, IsLaid, IsDirectory}
+use Rattle.namespace_model.specs.Refusals.{lacks, caller_of, or_else, first_refusal}
+use Rattle.namespace_model.specs.Outcomes.{Outcome, touched, reading, refused, unless, noted, within}
+use Rattle.namespace_model.specs.Walks.{way, walk, entered, passed, missing_below, missing_code}
+use Rattle.namespace_model.specs.Looks.{found}
+use Rattle.namespace_model.specs.Locality.{Among, Alike}
+use Rattle.namespace_model.proofs.Lookups.{keys_same, among_keys}
+use Rattle.namespace_model.proofs.Prefixes.{child_name, parent_name, behind_front, front_of_append, front_of_itself}
+
+-- ---- lists
+
+pub among_left : (p : Path) (ps qs : List Path) → Among p ps → Among p (ps ++ qs)
+among_left p [] qs h = absurd h
+among_left p (q ∷ ps) qs (inl e) = inl e
+among_left p (q ∷ ps) qs (inr h) = inr (among_left p ps qs h)
+
+pub among_right : (p : Path) (ps qs : List Path) → Among p qs → Among p (ps ++ qs)
+among_right p [] qs h = h
+among_right p (q ∷ ps) qs h = inr (among_right p ps qs h)
+
+pub among_either : (p : Path) (ps qs : List Path) → Among p (ps ++ qs) → Among p ps ⊎ Among p qs
+among_either p [] qs h = inr h
+among_either p (q ∷ ps) qs (inl e) = inl (inl e)
+among_either p (q ∷ ps) qs (inr h) = elim (among_either p ps qs h) [ inl k ↦ inl (inr k) | inr k ↦ inr k ]
+
+-- what is read first is touched, and so is what is touched then
+pub read_touched : (p : Path) (ps : List Path) (o : Outcome) → Among p ps → Among p (touched (reading ps o))
+read_touched p ps o h = among_left p _ _ (among_left p ps o.read h)
+
+pub then_touched : (p : Path) (ps : List Path) (o : Outcome) → Among p (touched o) → Among p (touched (reading ps o))
+then_touched p ps o h = subst (λ l. Among p l) (sym (append_assoc ps o.read o.written)) (among_right p ps _ h)
+
+known : (o : Option Node) → (is_some o ≡ true) ⊎ (is_some o ≡ false)
+known None = inr refl
+known (Some x) = inl refl
+
+further : (d : Path) (n : List ℕ) (q : Path) → is_prefix (d ++ n ∷ []) q ≡ true → is_prefix d q ≡ true
+further d n q e =
+    let rest = behind_front (d ++ n ∷ []) q e in
+    rw (rest.1, append_assoc d (n ∷ []) rest.0) (front_of_append d _)
+
+no_child : (t : Tree) → IsLaid t → (d : Path) (n : List ℕ) → is_some (at t d) ≡ false → is_some (at t (d ++ n ∷ [])) ≡ false
+no_child t laid d n gone = elim (known (at t (d ++ n ∷ []))) [
+  | inl there ↦ absurd (no_directory (at t d) gone (laid d n there))
+  | inr none ↦ none
+]
+  where
+    no_directory : (o : Option Node) → is_some o ≡ false → IsDirectory o → ⊥
+    no_directory None e h = h
+    no_directory (Some x) e h = false≢true (sym e)
+
+-- nothing stands below a path that isn't there
+pub nothing_below : (t : Tree) → IsLaid t → (d : Path) (n : List ℕ) (r : Path) → is_some (at t d) ≡ false → is_some (at t (d ++ n ∷ r)) ≡ false
+nothing_below t laid d n [] gone = no_child t laid d n gone
+nothing_below t laid d n (m ∷ r) gone =
+    subst (λ q. is_some (at t q) ≡ false) (append_assoc d (n ∷ []) (m ∷ r)) (nothing_below t laid (d ++ n ∷ []) m r (no_child t laid d n gone))
+
+module _ (s t : Tree) (laid_s : IsLaid s) (laid_t : IsLaid t) where
+  abbrev pub AlikeOn : Outcome → Type 0
+  AlikeOn o = (p : Path) → Among p (touched o) → Alike s t p
+
+  -- these paths are read, and then it goes on
+  pub go_on : (ps : List Path) (a b : Outcome) → (((p : Path) → Among p ps → Alike s t p) → AlikeOn a → a ≡ b) → AlikeOn (reading ps a) → reading ps a ≡ reading ps b
+  go_on ps a b same h = ap (reading ps) (same (λ p k. h p (read_touched p ps a k)) (λ p k. h p (then_touched p ps a k)))
+
+  pub unless_same : (x y : Option Reply) (a b : Outcome) → x ≡ y → (AlikeOn a → a ≡ b) → AlikeOn (unless x a) → unless x a ≡ unless y b
+  unless_same None y a b e same h = subst (λ z. a ≡ unless z b) e (same h)
+  unless_same (Some reply) y a b e same h = ap (λ z. unless z b) e
+
+  noted_of : (u v : Option Node) (p : Path) (none none' : Outcome) (f g : Node → Outcome) → is_some u ≡ is_some v → (AlikeOn none → none ≡ none')
+      → ((x : Node) → Alike s t p → (u ≡ Some x → v ≡ Some x) → AlikeOn (f x) → f x ≡ g x) → (Alike s t p → u ≡ v) → AlikeOn (noted u p none f) → noted u p none f ≡ noted v p none' g
+  noted_of None None p none none' f g e same_none same_some is h = same_none h
+  noted_of None (Some y) p none none' f g e same_none same_some is h = absurd (false≢true e)
+  noted_of (Some x) v p none none' f g e same_none same_some is h =
+      let alike = h p (inl refl) in
+      let here = is alike in
+      let then = same_some x alike (λ k. sym here ∙ k) (λ q k. h q (inr k)) in
+      ap (reading (p ∷ [])) then ∙ ap (λ (w : Option Node). noted w p none' g) here
+
+  -- a node is looked at whose being there shows alike
+  pub noted_same : (p : Path) (none none' : Outcome) (f g : Node → Outcome) → is_some (at s p) ≡ is_some (at t p) → (AlikeOn none → none ≡ none')
+      → ((x : Node) → Alike s t p → (at s p ≡ Some x → at t p ≡ Some x) → AlikeOn (f x) → f x ≡ g x) → AlikeOn (noted (at s p) p none f) → noted (at s p) p none f ≡ noted (at t p) p none' g
+  noted_same p none none' f g e same_none same_some h = noted_of (at s p) (at t p) p none none' f g e same_none same_some (λ alike. alike.node) h
+
+  within_of : (u v : Option Node) (none none' : Outcome) (f g : Node → Outcome) → u ≡ v → (AlikeOn none → none ≡ none')
+      → ((x : Node) → AlikeOn (f x) → f x ≡ g x) → AlikeOn (within u none f) → within u none f ≡ within v none' g
+  within_of None v none none' f g e same_none same_some h = same_none h ∙ ap (λ (w : Option Node). within w none' g) e
+  within_of (Some x) v none none' f g e same_none same_some h = same_some x h ∙ ap (λ (w : Option Node). within w none' g) e
+
+  -- it goes on with a node that was read
+  pub within_same : (p : Path) (none none' : Outcome) (f g : Node → Outcome) → Alike s t p → (AlikeOn none → none ≡ none')
+      → ((x : Node) → AlikeOn (f x) → f x ≡ g x) → AlikeOn (within (at s p) none f) → within (at s p) none f ≡ within (at t p) none' g
+  within_same p none none' f g alike = within_of (at s p) (at t p) none none' f g alike.node
+
+  -- a path shows alike where its parent is alike
+  pub shown_below : (d : Path) (p : Path) (n : List ℕ) → p ≡ d ++ n ∷ [] → Alike s t d → is_some (at s p) ≡ is_some (at t p)
+  shown_below d p n e alike = ap (λ q. is_some (at s q)) e ∙ alike.names n ∙ ap (λ q. is_some (at t q)) (sym e)
+
+  pub shown_from_parent : (p : Path) → Alike s t (parent p) → is_some (at s p) ≡ is_some (at t p)
+  shown_from_parent p alike = elim (parent_name p) [
+    | inl e ↦ ap (λ q. is_some (at s q)) e ∙ ap is_some (let up : parent p ≡ [] = ap parent e in subst (λ q. Alike s t q) up alike).node ∙ ap (λ q. is_some (at t q)) (sym e)
+    | inr h ↦ shown_below (parent p) p h.0 h.1 alike
+  ]
+
+  passed_same : (caller : Caller) (blocked : Code) (p : Path) (x : Node) (d : Bool) (a b : Outcome) → is_directory x ≡ d → (AlikeOn a → a ≡ b)
+      → AlikeOn (passed caller blocked p x a) → passed caller blocked p x a ≡ passed caller blocked p x b
+  passed_same caller blocked p x true a b e same h =
+      rw (e) (unless_same (lacks caller 1 p x) (lacks caller 1 p x) a b refl same (rw (e) at h))
+  passed_same caller blocked p x false a b e same h = rw (e) refl
+
+  entered_of : (caller : Caller) (u v : Option Node) (p : Path) (blocked : Code) (m m' a b : Outcome) → is_some u ≡ is_some v → (AlikeOn m → m ≡ m')
+      → (Alike s t p → u ≡ v) → (Alike s t p → AlikeOn a → a ≡ b) → AlikeOn (entered caller m blocked u p a) → entered caller m blocked u p a ≡ entered caller m' blocked v p b
+  entered_of caller None None p blocked m m' a b e same_m is same h = same_m h
+  entered_of caller None (Some y) p blocked m m' a b e same_m is same h = absurd (false≢true e)
+  entered_of caller (Some x) v p blocked m m' a b e same_m is same h =
+      let alike = h p (inl refl) in
+      let here = is alike in
+      ap (reading (p ∷ [])) (passed_same caller blocked p x (is_directory x) a b refl (same alike) (λ q k. h q (inr k)))
+      ∙ ap (λ (w : Option Node). entered caller m' blocked w p b) here
+
+  -- the way from a directory that is alike; what comes then may use that its last directory is
+  pub way_same : (caller : Caller) (m m' : Path → Outcome) (blocked : Code) (done names : Path) (a b : Outcome) → Alike s t done
+      → ((d : Path) → Alike s t d → AlikeOn (m d) → m d ≡ m' d) → (Alike s t (done ++ names) → AlikeOn a → a ≡ b)
+      → AlikeOn (way s caller m blocked done names a) → way s caller m blocked done names a ≡ way t caller m' blocked done names b
+  way_same caller m m' blocked done [] a b alike same_m same h = same (subst (λ q. Alike s t q) (sym (append-nil done)) alike) h
+  way_same caller m m' blocked done (n ∷ names) a b alike same_m same h =
+      entered_of caller (at s (done ++ n ∷ [])) (at t (done ++ n ∷ [])) (done ++ n ∷ []) blocked (m done) (m' done) _ _ (alike.names n) (same_m done alike) (λ k. k.node)
+      (λ here. way_same caller m m' blocked (done ++ n ∷ []) names a b here same_m (λ last. same (subst (λ q. Alike s t q) (append_assoc done (n ∷ []) names) last))) h
+
+  -- the walk to the parent of a path
+  pub walk_same : (caller : Caller) (code : Code) (p : Path) (a b : Outcome) → (Alike s t (parent p) → AlikeOn a → a ≡ b)
+      → AlikeOn (walk s caller code p a) → walk s caller code p a ≡ walk t caller code p b
+  walk_same caller code p a b same =
+      go_on ([] ∷ []) _ _ (λ root. way_same caller (missing_below code) (missing_below code) code [] (parent p) a b (root [] (inl refl)) (λ d k l. refl) same)
+
+  -- the way to a node, and the node
+  pub found_same : (e : Entry) (p : Path) (f g : Node → Outcome) → ((x : Node) → Alike s t p → AlikeOn (f x) → f x ≡ g x)
+      → AlikeOn (found s e p f) → found s e p f ≡ found t e p g
+  found_same e p f g same =
+      walk_same (caller_of e) PathNotFound p _ _ (λ up. noted_same p (refused (missing_code p PathNotFound)) (refused (missing_code p PathNotFound)) f g (shown_from_parent p up) (λ k. refl) (λ x alike is. same x alike))
+
+  -- the children of a path that is alike
+  pub children_same : (d : Path) → Alike s t d → keys_where s (is_child d) ≡ keys_where t (is_child d)
+  children_same d alike = keys_same s t (is_child d) (λ q e. let name = child_name d q e in shown_below d q name.0 name.1 alike)
+
+  -- Going down from a path that shows alike to one below it, as long as what is there on the way is alike.
+  pub shown_down : (d r : Path) → is_some (at s d) ≡ is_some (at t d)
+      → ((q more : Path) (n : List ℕ) → d ++ r ≡ q ++ n ∷ more → is_prefix d q ≡ true → is_some (at s q) ≡ true → Alike s t q)
+      → is_some (at s (d ++ r)) ≡ is_some (at t (d ++ r))
+  shown_down d [] shown alike = rw (append-nil d) shown
+  shown_down d (n ∷ r) shown alike = elim (known (at s d)) [
+    | inl there ↦
+        let here = alike d r n refl (front_of_itself d) there in
+        subst (λ q. is_some (at s q) ≡ is_some (at t q)) (append_assoc d (n ∷ []) r)
+        (shown_down (d ++ n ∷ []) r (here.names n)
+        (λ q more m e front q_there. alike q more m (sym (append_assoc d (n ∷ []) r) ∙ e) (further d n q front) q_there))
+    | inr gone ↦ nothing_below s laid_s d n r gone ∙ sym (nothing_below t laid_t d n r (sym shown ∙ gone))
+  ]
+
+  -- all at and below a path, where each of it that is there is alike
+  pub subtree_same : (p : Path) → is_some (at s p) ≡ is_some (at t p) → ((q : Path) → Among q (keys_where s (is_prefix p)) → Alike s t q)
+      → keys_where s (is_prefix p) ≡ keys_where t (is_prefix p)
+  subtree_same p shown alike =
+      keys_same s t (is_prefix p) (λ q e.
+      let rest = behind_front p q e in
+      rw (rest.1) (shown_down p rest.0 shown (λ o more n f front there. alike o (among_keys s (is_prefix p) o there front))))
+
+  pub node_same : (p : Path) → Alike s t p → node_at s p ≡ node_at t p
+  node_same p alike = ap (λ (o : Option Node). unwrap_or o blank) alike.node
+
+  -- questions that are the same on both, at paths that are alike
+  pub first_refusal_same : (asks asks' : Path → Node → Option Reply) (ps : List Path) → ((q : Path) → Among q ps → Alike s t q × ((x : Node) → asks q x ≡ asks' q x))
+      → first_refusal asks s ps ≡ first_refusal asks' t ps
+  first_refusal_same asks asks' [] same = refl
+  first_refusal_same asks asks' (p ∷ ps) same =
+      let here = same p (inl refl) in
+      let question : asks p (node_at s p) ≡ asks' p (node_at t p) = here.1 (node_at s p) ∙ ap (asks' p) (node_same p here.0) in
+      let rest = first_refusal_same asks asks' ps (λ q k. same q (inr k)) in
+      ap (λ r. or_else r (first_refusal asks s ps)) question ∙ ap (or_else (asks' p (node_at t p))) rest

@@ -1,0 +1,57 @@
+-- Take a file or a directory away (Path - Delete of the REST reference).
+use Rattle.std.specs.Prelude.{Bool, true, false, not, ◌&&◌, List, [], ◌∷◌, Option, None, if◌then◌else◌}
+use Rattle.namespace_model.specs.declared.caller.Caller.{Caller}
+use Rattle.namespace_model.specs.declared.code.Code.TheVariants.{PathNotFound, DirectoryNotEmpty}
+use Rattle.namespace_model.specs.declared.reply.Reply.{Reply}
+use Rattle.namespace_model.specs.declared.request.Entry.{Entry}
+use Rattle.namespace_model.specs.Nodes.{Node, is_directory}
+use Rattle.namespace_model.specs.Trees.{Path, Tree, at, parent, is_bare, children, subtree}
+use Rattle.namespace_model.specs.Replies.{success}
+use Rattle.namespace_model.specs.Outcomes.{Outcome, reading, refused, unless, noted, within}
+use Rattle.namespace_model.specs.Refusals.{caller_of, lacks, is_guarded, is_unmet, lease_refuses, refuse_if, or_else, first_refusal}
+use Rattle.namespace_model.specs.Walks.{walk, missing_code}
+
+-- ---- what a recursive delete asks of a directory that isn't empty
+
+-- all three rights on a directory that isn't empty, and then the sticky rule for each child
+abbrev pub not_clearable : Tree → Caller → Path → Node → Option Reply
+not_clearable t caller p x =
+    if is_directory x && not (is_bare t p) then or_else (lacks caller 7 p x) (first_refusal (is_guarded caller x) t (children t p)) else None
+
+-- ---- the steps
+
+-- these paths go, out of a directory
+abbrev pub gone : Path → List Path → Outcome
+gone dir ps = record {
+  read = [];
+  written = dir ∷ ps;
+  fresh = [];
+  reply = success 200 [];
+  effect = record { taken = ps; puts = []; move = None };
+}
+
+-- a recursive delete reads all that it takes away, and asks in path order
+abbrev pub cleared : Tree → Entry → Path → Bool → List Path → Outcome
+cleared t e p true ps =
+    reading ps
+    (unless (first_refusal (not_clearable t (caller_of e)) t ps)
+    (gone (parent p) ps))
+cleared t e p false ps = gone (parent p) ps
+
+abbrev pub delete_node : Tree → Entry → Path → Bool → Node → Node → Outcome
+delete_node t e p recursive dir x =
+    unless (is_guarded (caller_of e) dir p x)
+    (unless (is_unmet e x)
+    (unless (lease_refuses e e.request.lease x)
+    (unless (refuse_if (not recursive && (is_directory x && not (is_bare t p))) DirectoryNotEmpty)
+    (cleared t e p recursive (subtree t p)))))
+
+abbrev pub delete_in : Tree → Entry → Path → Bool → Node → Outcome
+delete_in t e p recursive dir =
+    unless (lacks (caller_of e) 3 (parent p) dir)
+    (noted (at t p) p (refused (missing_code p PathNotFound)) (delete_node t e p recursive dir))
+
+unfoldable pub delete : Tree → Entry → Path → Bool → Outcome
+delete t e p recursive =
+    walk t (caller_of e) PathNotFound p
+    (within (at t (parent p)) (refused PathNotFound) (delete_in t e p recursive))

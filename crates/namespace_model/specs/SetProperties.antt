@@ -1,0 +1,25 @@
+-- Replace the properties of a node (Path - Update with action=setProperties of the REST reference).
+use Rattle.std.specs.Prelude.{ℕ, List}
+use Rattle.lease_state.specs.LeaseTable.{lease_after_write}
+use Rattle.namespace_model.specs.declared.request.Entry.{Entry}
+use Rattle.namespace_model.specs.Nodes.{Node}
+use Rattle.namespace_model.specs.Trees.{Path, Tree}
+use Rattle.namespace_model.specs.Effects.{stamp}
+use Rattle.namespace_model.specs.Replies.{success, stamp_fields}
+use Rattle.namespace_model.specs.Outcomes.{Outcome, edited, unless}
+use Rattle.namespace_model.specs.Refusals.{caller_of, lacks, is_unmet, lease_refuses}
+use Rattle.namespace_model.specs.Looks.{found}
+
+abbrev pub properties_set : Entry → Path → List (List ℕ × List ℕ) → Node → Outcome
+properties_set e p props x =
+    edited p (stamp e.moment (record x { props = props; lease = lease_after_write x.lease e.moment })) (success 200 (stamp_fields e.moment))
+
+abbrev pub set_properties_of : Entry → Path → List (List ℕ × List ℕ) → Node → Outcome
+set_properties_of e p props x =
+    unless (lacks (caller_of e) 2 p x)
+    (unless (is_unmet e x)
+    (unless (lease_refuses e e.request.lease x)
+    (properties_set e p props x)))
+
+unfoldable pub set_properties : Tree → Entry → Path → List (List ℕ × List ℕ) → Outcome
+set_properties t e p props = found t e p (set_properties_of e p props)

@@ -68,7 +68,7 @@ module _ {T : Type 0} (bare : T → T) where
 
 module _ {T E : Type 0} where
   -- the slots in hand rest on the holds below
-  empties_same : (n : ℕ) (hs hs' : List (Hold T)) → ((k : ℕ) → k < n → hold_at hs k ≡ hold_at hs' k) → empties {T = T} {E = E} n hs ≡ empties n hs'
+  pub empties_same : (n : ℕ) (hs hs' : List (Hold T)) → ((k : ℕ) → k < n → hold_at hs k ≡ hold_at hs' k) → empties {T = T} {E = E} n hs ≡ empties n hs'
   empties_same zero hs hs' e = refl
   empties_same (suc n) hs hs' e =
       let a = e n (omega arith) in
@@ -85,7 +85,7 @@ module _ {T E : Type 0} where
   pub empties_next : (n : ℕ) (hs : List (Hold T)) → empties {T = T} {E = E} (n + 1) hs ≡ with_empty n (hold_at hs n) (empties n hs)
   empties_next n hs = let next : n + 1 ≡ suc n = omega arith in ap (λ (i : ℕ). empties {T = T} {E = E} i hs) next
 
-  quiet_after : (v w : View T E) (n : ℕ) (h : Hold T) → w ≡ with_stripe v n h → IsQuiet v.at → IsQuiet w.at
+  pub quiet_after : (v w : View T E) (n : ℕ) (h : Hold T) → w ≡ with_stripe v n h → IsQuiet v.at → IsQuiet w.at
   quiet_after v w n h e q = subst (λ (z : View T E). IsQuiet z.at) (sym e) (record { live = q.live; no_journal = q.no_journal; no_latch = q.no_latch })
 
   -- one stripe is held anew
@@ -175,19 +175,19 @@ module _ {T E : Type 0} where
         (out_set bare me.0.at.holds parts n (Exclusive (bare y)) (std.Some y) (omega (arith, b.stands.wide)) (omega (arith, b.room)) refl b.out) l)
 
     -- the slots in hand, where the last stripe is held shared or exclusively
-    hand_shared : (n : ℕ) (h : Hold T) (hand : List (ℕ × Slot T E)) → HeldIn mode.Shared h → with_empty n h hand ≡ hand
+    pub hand_shared : (n : ℕ) (h : Hold T) (hand : List (ℕ × Slot T E)) → HeldIn mode.Shared h → with_empty n h hand ≡ hand
     hand_shared n Free hand p = refl
     hand_shared n Shared hand p = refl
     hand_shared n (Looked x) hand p = refl
     hand_shared n (Exclusive x) hand p = absurd p
 
-    hand_exclusive : (n : ℕ) (h : Hold T) (hand : List (ℕ × Slot T E)) → HeldIn mode.Exclusive h → with_empty n h hand ≡ (n, Empty) ∷ hand
+    pub hand_exclusive : (n : ℕ) (h : Hold T) (hand : List (ℕ × Slot T E)) → HeldIn mode.Exclusive h → with_empty n h hand ≡ (n, Empty) ∷ hand
     hand_exclusive n Free hand p = absurd p
     hand_exclusive n Shared hand p = absurd p
     hand_exclusive n (Looked x) hand p = absurd p
     hand_exclusive n (Exclusive x) hand p = refl
 
-    shared_out : (h : Hold T) → HeldIn mode.Shared h → part_out (let z : Hold T = Free in z) ≡ part_out h
+    pub shared_out : (h : Hold T) → HeldIn mode.Shared h → part_out (let z : Hold T = Free in z) ≡ part_out h
     shared_out Free p = absurd p
     shared_out Shared p = refl
     shared_out (Looked x) p = refl
@@ -203,7 +203,7 @@ module _ {T E : Type 0} where
         let e = last_in_hand n me parts b held in
         e ∙ ap (λ (z : List (ℕ × Slot T E)). (n, Empty) ∷ rest z) (sym e)
 
-    exclusive_part : (h : Hold T) (q : std.Option T) → HeldIn mode.Exclusive h → bared bare q ≡ part_out h → (y : T) × (q ≡ std.Some y) × (h ≡ Exclusive (bare y))
+    pub exclusive_part : (h : Hold T) (q : std.Option T) → HeldIn mode.Exclusive h → bared bare q ≡ part_out h → (y : T) × (q ≡ std.Some y) × (h ≡ Exclusive (bare y))
     exclusive_part Free q p e = absurd p
     exclusive_part Shared q p e = absurd p
     exclusive_part (Looked x) q p e = absurd p

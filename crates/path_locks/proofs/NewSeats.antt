@@ -14,10 +14,11 @@ use Rattle.path_locks.specs.declared.rule.View.{View}
 use Rattle.path_locks.specs.declared.rule.Opening.{Opening}
 use Rattle.path_locks.specs.Rule.{first_view}
 use Rattle.path_locks.specs.Plays.{new_view}
-use Rattle.path_locks.specs.Stands.{Stands}
 use Rattle.path_locks.specs.Views.{SeatView, counting, table_of, IsNewSeat}
 use Rattle.path_locks.proofs.Below.{some_inj}
 use Rattle.path_locks.proofs.MakeSeat.{stands_new}
+use Rattle.path_locks.specs.Between.{IsBetween}
+use Rattle.path_locks.proofs.Betweens.{between_idle}
 use Rattle.std.proofs.lemmas.Option.{none-some}
 
 module _ {T E R : Type 0} (o : Object T E R) where
@@ -31,8 +32,9 @@ module _ {T E R : Type 0} (o : Object T E R) where
     new_me me me' e f = f ∙ ap (λ (z : Me (Slot T E) (View T E)). let r : Me (Slot T E) (View T E) = (new_view o z.0, []) in r) e
 
     pub new_stands : (me me' : Me (Slot T E) (View T E)) → AllFit o key.journal.value.entries → me ≡ (counting (first_view o key) me.0.made, []) → me' ≡ (new_view o me.0, [])
-        → Stands o me'.0.at
-    new_stands me me' fits e f = subst (λ (z : Me (Slot T E) (View T E)). Stands o z.0.at) (sym (new_me me me' e f)) (stands_new o me.0.made key.journal.value.entries fits)
+        → IsBetween o me'
+    new_stands me me' fits e f = subst (λ (z : Me (Slot T E) (View T E)). IsBetween o z) (sym (new_me me me' e f))
+        (between_idle o _ (stands_new o me.0.made key.journal.value.entries fits) (idle_new me.0.made key.journal.value.entries) refl)
 
     pub new_seat : (id table : TableId) (place : ℕ) (me me' : Me (Slot T E) (View T E)) (room : List (std.Option T)) → table ≡ id → me ≡ (counting (first_view o key) me.0.made, [])
         → me' ≡ (new_view o me.0, []) → room ≡ replicate 64 std.None
@@ -52,8 +54,9 @@ module _ {T E R : Type 0} (o : Object T E R) where
         })
 
     -- the first seat itself
-    pub first_stands : (n : ℕ) (me : Me (Slot T E) (View T E)) → AllFit o key.journal.value.entries → me ≡ (counting (first_view o key) n, []) → Stands o me.0.at
-    first_stands n me fits e = subst (λ (z : Me (Slot T E) (View T E)). Stands o z.0.at) (sym e) (stands_new o 0 key.journal.value.entries fits)
+    pub first_stands : (n : ℕ) (me : Me (Slot T E) (View T E)) → AllFit o key.journal.value.entries → me ≡ (counting (first_view o key) n, []) → IsBetween o me
+    first_stands n me fits e = subst (λ (z : Me (Slot T E) (View T E)). IsBetween o z) (sym e)
+        (between_idle o _ (stands_new o 0 key.journal.value.entries fits) (idle_new 0 key.journal.value.entries) refl)
 
     pub first_seat : (id table : TableId) (place n : ℕ) (me : Me (Slot T E) (View T E)) (room : List (std.Option T)) → table ≡ id → me ≡ (counting (first_view o key) n, [])
         → room ≡ replicate 64 std.None → IsNewSeat o (table_of id key) 0 (record { table = table; id = place; me = me; room = room })

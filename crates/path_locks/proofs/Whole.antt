@@ -31,7 +31,7 @@ module _ {A : Type 0} where
       λ i. first i ∷ others i
 
 module _ {T : Type 0} where
-  hold_at-past : (hs : List (Hold T)) (k : ℕ) → length hs ≤ k → hold_at hs k ≡ Free
+  pub hold_at-past : (hs : List (Hold T)) (k : ℕ) → length hs ≤ k → hold_at hs k ≡ Free
   hold_at-past [] k h = refl
   hold_at-past (x ∷ xs) zero h = absurd (omega arith)
   hold_at-past (x ∷ xs) (suc k) h = hold_at-past xs k (omega arith)

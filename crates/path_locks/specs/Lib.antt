@@ -1,6 +1,12 @@
+pub mod Alike
+pub mod Between
+pub mod Committing
 pub mod Holding
+pub mod Moves
+pub mod Narrow
 pub mod Plans
 pub mod Plays
 pub mod Rule
 pub mod Stands
 pub mod Views
+pub mod Working

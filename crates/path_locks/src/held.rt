@@ -1,9 +1,13 @@
 //! Seats, and what they hold.
-ghost use Rattle.std.specs.Prelude.{◌≡◌};
+ghost use Rattle.std.specs.Prelude.{◌≡◌, IfOk};
+ghost use Rattle.path_locks.specs.Views.{SeatView, IsHeldBy};
+ghost use Rattle.path_locks.specs.Working.{AreReady, AreSameParts};
 
 use crate::plan::Plan;
 use crate::rule::LockSeat;
+use crate::steps::reserve_all;
 use lock_core::Parted;
+use std::alloc::AllocError;
 use std::marker::Model;
 
 /// A seat of a table of locks, which one thread at a time steps with. A contract sees its table, its place there, what it
@@ -16,13 +20,13 @@ pub struct Seat<P: Parted> {
 
 impl<P: Parted> Model for Seat<P> {
     ghost use Rattle.path_locks.specs.Views.{SeatView};
-    ghost use Rattle.path_locks.specs.Stands.{Stands};
+    ghost use Rattle.path_locks.specs.Between.{IsBetween};
 
     ghost Value = { SeatView P.Part P.Entry };
 
     ghost view = { λ s. record { table = s.seat.table_id; id = s.seat.id; me = s.seat.me; room = s.room.items } };
 
-    ghost invariant = { λ s. Stands P.object s.seat.me.0.at };
+    ghost invariant = { λ s. IsBetween P.object s.seat.me };
 }
 
 /// What a seat holds: a mode for each stripe, and the parts of the stripes that it holds exclusively. A contract sees the
@@ -48,5 +52,17 @@ impl<P: Parted> Held<P> {
         ensures { result ≡ self.now.wide }
     {
         self.wide
+    }
+
+    /// Makes the work ready in each part of a stripe that is held exclusively. The parts stay the same but for what is kept
+    /// ready in them, and so does all else that is held. The one error is want of memory.
+    pub fn reserve(&mut self, work: &P::Work) -> Result<(), AllocError>
+        ensures modes { self.new.modes ≡ self.old.modes }
+        ensures wide { self.new.wide ≡ self.old.wide }
+        ensures same { AreSameParts P.bare self.old.parts self.new.parts }
+        ensures held { (seat : SeatView P.Part P.Entry) → IsHeldBy P.bare seat self.old → IsHeldBy P.bare seat self.new }
+        ensures ready { IfOk result (λ _. AreReady P.ready work.now self.new.parts) }
+    {
+        reserve_all::<P>(&mut self.parts, work)
     }
 }

@@ -1,4 +1,5 @@
-ghost use Rattle.std.specs.Prelude.{◌≡◌, ◌<◌, ◌≤◌, Some, slice_get, slice_set};
+ghost use Rattle.std.specs.Prelude.{◌≡◌, ◌<◌, ◌≤◌, Some, slice_get, slice_set, length};
+ghost use Rattle.lock_core.specs.declared.object.LockMode.TheVariants as mode;
 ghost use Rattle.path_locks.specs.Plans.{no_plan, width, wide_of};
 
 use lock_core::LockMode;
@@ -47,6 +48,17 @@ impl Plan {
         ensures { self.new ≡ slice_set self.old stripe mode }
     {
         self.modes[stripe as usize] = mode;
+    }
+
+    /// The same plan, with the stripe held shared.
+    pub(crate) fn shared_at(&self, stripe: u8) -> Plan
+        requires { stripe < 64 }
+        ensures value { result ≡ slice_set self.now stripe mode.Shared }
+        ensures whole { length self.now ≡ 64 }
+    {
+        let mut plan = *self;
+        plan.modes[stripe as usize] = LockMode::Shared;
+        plan
     }
 
     /// How wide the plan is: the number of stripes held shared, and twice that of those held exclusively.

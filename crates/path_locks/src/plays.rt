@@ -48,6 +48,72 @@ impl<P: Parted> Play<LockSlot<P>, LockView<P>> for GivesExclusive<P> {
     ghost then = { gave_exclusive P.object };
 }
 
+/// Takes the journal, where nobody has it.
+pub(crate) struct TakesJournal<P> {
+    marker: PhantomData<P>,
+}
+
+impl<P: Parted> Play<LockSlot<P>, LockView<P>> for TakesJournal<P> {
+    ghost use Rattle.path_locks.specs.Moves.{took_journal};
+
+    ghost then = { took_journal P.object };
+}
+
+/// Gives the journal back as it was.
+pub(crate) struct GivesJournal<P> {
+    marker: PhantomData<P>,
+}
+
+impl<P: Parted> Play<LockSlot<P>, LockView<P>> for GivesJournal<P> {
+    ghost use Rattle.path_locks.specs.Moves.{gave_journal};
+
+    ghost then = { gave_journal P.object };
+}
+
+/// Gives the journal back with one entry more.
+pub(crate) struct GivesLonger<P> {
+    marker: PhantomData<P>,
+}
+
+impl<P: Parted> Play<LockSlot<P>, LockView<P>> for GivesLonger<P> {
+    ghost use Rattle.path_locks.specs.Moves.{gave_longer};
+
+    ghost then = { gave_longer P.object };
+}
+
+/// Takes the latch of a stripe that is held shared, and its part, where nobody has it.
+pub(crate) struct TakesLatch<P> {
+    marker: PhantomData<P>,
+}
+
+impl<P: Parted> Play<LockSlot<P>, LockView<P>> for TakesLatch<P> {
+    ghost use Rattle.path_locks.specs.Moves.{took_latch};
+
+    ghost then = { took_latch P.object P.bare };
+}
+
+/// Gives a latch back, and the part.
+pub(crate) struct GivesLatch<P> {
+    marker: PhantomData<P>,
+}
+
+impl<P: Parted> Play<LockSlot<P>, LockView<P>> for GivesLatch<P> {
+    ghost use Rattle.path_locks.specs.Moves.{gave_latch};
+
+    ghost then = { gave_latch P.object };
+}
+
+/// Gives the part of a stripe that is held exclusively back, and holds the stripe shared.
+pub(crate) struct MakesShared<P> {
+    marker: PhantomData<P>,
+}
+
+impl<P: Parted> Play<LockSlot<P>, LockView<P>> for MakesShared<P> {
+    ghost use Rattle.path_locks.specs.Moves.{made_shared};
+
+    ghost then = { made_shared P.object };
+}
+
 /// The first seat makes one with the next number.
 pub(crate) struct Numbered<P> {
     marker: PhantomData<P>,

@@ -1,9 +1,18 @@
 //! The table of locks: its start, and how seats take and give back the stripes of a plan.
-ghost use Rattle.std.specs.Prelude.{◌≡◌, ◌≤◌, ℕ, false, Some, IfOk, length, map, slice_get};
+ghost use Rattle.std.specs.Prelude.{◌≡◌, ◌≢◌, ◌≤◌, ◌<◌, ◌+◌, ℕ, [], ◌∷◌, ◌++◌, true, false, Some, IfOk, length, map, slice_get, slice_set};
+ghost use Rattle.std.specs.Fn.{FnOnceReturnsAt};
+ghost use mathlib.Core.Option.{some};
+ghost use Rattle.lock_core.specs.declared.object.LockMode.TheVariants as mode;
 ghost use Rattle.lock_core.specs.Object.{replay};
-ghost use Rattle.lock_core.specs.Sound.{AllFit, MadeBelow};
+ghost use Rattle.lock_core.specs.Machine.{hold_at, note_of, notes, downgraded, committed};
+ghost use Rattle.lock_core.specs.Sound.{StartsWith, AllFit, MadeBelow};
 ghost use Rattle.path_locks.specs.Stands.{Stands};
 ghost use Rattle.path_locks.specs.Plans.{wide_of};
+ghost use Rattle.path_locks.specs.Moves.{AreNotesSeen};
+ghost use Rattle.path_locks.specs.Committing.{MayCommit};
+ghost use Rattle.path_locks.specs.Working.{AreReady, AreChanged, worked};
+ghost use Rattle.path_locks.specs.Narrow.{IsWithin, AreNarrowed};
+ghost use Rattle.path_locks.specs.Alike.{limits_of, HoldsAlike};
 ghost use Rattle.path_locks.specs.Views.{SeatView, seen_of, mine_of, has_journal, HoldsNothing, IsHeldBy, IsSameSeat, AreNewSeats, AreEverySeat, SawOf};
 
 use crate::ending::{join_all, take_out};
@@ -12,9 +21,12 @@ use crate::plan::Plan;
 use crate::rule::{LockMemory, Opening};
 use crate::seating::make_seats;
 use crate::start::{empty_rooms, fill_slots, make_memory};
-use crate::steps::{give_all, take_all};
+use crate::steps::{
+    apply_all, give_all, lock_journal, look_exclusive, look_shared, narrow_all, put_journal,
+    put_longer, take_all,
+};
 use commit_journal::Journal;
-use lock_core::Parted;
+use lock_core::{LockMode, Parted};
 use std::alloc::{AllocError, Global};
 use std::marker::Model;
 use std::mem;
@@ -127,6 +139,171 @@ impl<P: Parted> LockTable<P> {
         } = held;
         give_all(&self.memory.shared, &mut seat.seat, &mut parts, &plan);
         seat.room = parts;
+    }
+
+    /// Holds the stripe, which is held exclusively, shared from now on, with the note of its part.
+    ///
+    /// What is held is held by the seat, which is one of this table and doesn't have the journal.
+    pub fn downgrade(&self, seat: &mut Seat<P>, held: &mut Held<P>, stripe: u8)
+        requires own { seat.old.table ≡ self.now.id }
+        requires held { IsHeldBy P.bare seat.old held.old }
+        requires journal { has_journal seat.old ≡ false }
+        requires stripe { stripe < 64 }
+        requires exclusive { slice_get held.old.modes stripe ≡ Some mode.Exclusive }
+        ensures same { IsSameSeat seat.old seat.new }
+        ensures journal { has_journal seat.new ≡ false }
+        ensures seen { seen_of seat.new ≡ seen_of seat.old }
+        ensures mine { mine_of seat.new ≡ mine_of seat.old }
+        ensures held { IsHeldBy P.bare seat.new held.new }
+        ensures modes { held.new.modes ≡ slice_set held.old.modes stripe mode.Shared }
+        ensures wide { held.new.wide ≡ held.old.wide }
+        ensures note { hold_at seat.new.me.0.at.holds stripe ≡ downgraded (hold_at seat.old.me.0.at.holds stripe) }
+        ensures others { (k : ℕ) → k < 64 → k ≢ stripe → hold_at seat.new.me.0.at.holds k ≡ hold_at seat.old.me.0.at.holds k }
+        ensures stands { Stands P.object seat.new.me.0.at }
+    {
+        let keep = held.plan.shared_at(stripe);
+        self.drop_extra(seat, held, &keep);
+    }
+
+    /// Leaves of what is held exactly what a plan keeps, which is below it or equal to it. A stripe that stays held keeps its
+    /// note.
+    ///
+    /// What is held is held by the seat, which is one of this table and doesn't have the journal.
+    pub fn drop_extra(&self, seat: &mut Seat<P>, held: &mut Held<P>, keep: &Plan)
+        requires own { seat.old.table ≡ self.now.id }
+        requires held { IsHeldBy P.bare seat.old held.old }
+        requires journal { has_journal seat.old ≡ false }
+        requires within { IsWithin keep.now held.old.modes }
+        ensures same { IsSameSeat seat.old seat.new }
+        ensures journal { has_journal seat.new ≡ false }
+        ensures seen { seen_of seat.new ≡ seen_of seat.old }
+        ensures mine { mine_of seat.new ≡ mine_of seat.old }
+        ensures held { IsHeldBy P.bare seat.new held.new }
+        ensures modes { held.new.modes ≡ keep.now }
+        ensures wide { held.new.wide ≡ held.old.wide }
+        ensures kept { AreNarrowed keep.now seat.old.me.0.at.holds seat.new.me.0.at.holds }
+        ensures stands { Stands P.object seat.new.me.0.at }
+    {
+        narrow_all(
+            &self.memory.shared,
+            &mut seat.seat,
+            &mut held.parts,
+            &held.plan,
+            keep,
+        );
+        held.plan = *keep;
+    }
+
+    /// Answers what `f` says of the part of a stripe that is held, with which it is called once: under the latch, for which
+    /// it waits, where the stripe is held shared.
+    ///
+    /// What is held is held by the seat, which is one of this table and doesn't have the journal. `f` may be called on every
+    /// part.
+    pub fn look<R: Wait, T, F: FnOnce(&P::Part) -> T>(
+        &self,
+        rt: &R,
+        seat: &mut Seat<P>,
+        held: &Held<P>,
+        stripe: u8,
+        f: F,
+    ) -> T
+        requires own { seat.old.table ≡ self.now.id }
+        requires held { IsHeldBy P.bare seat.old held.now }
+        requires journal { has_journal seat.old ≡ false }
+        requires stripe { stripe < 64 }
+        requires some { slice_get held.now.modes stripe ≢ Some mode.None }
+        requires call { F.IsAlwaysCallable f }
+        ensures same { IsSameSeat seat.old seat.new }
+        ensures journal { has_journal seat.new ≡ false }
+        ensures seen { seen_of seat.new ≡ seen_of seat.old }
+        ensures mine { mine_of seat.new ≡ mine_of seat.old }
+        ensures held { IsHeldBy P.bare seat.new held.now }
+        ensures looked { (part : P.Part) × FnOnceReturnsAt F.FnOnce f part result × (note_of (hold_at seat.new.me.0.at.holds stripe) ≡ some (P.bare part)) }
+        ensures again { (x : P.Part) → note_of (hold_at seat.old.me.0.at.holds stripe) ≡ some x → note_of (hold_at seat.new.me.0.at.holds stripe) ≡ some x }
+        ensures others { (k : ℕ) → k ≢ stripe → hold_at seat.new.me.0.at.holds k ≡ hold_at seat.old.me.0.at.holds k }
+        ensures stands { Stands P.object seat.new.me.0.at }
+    {
+        match held.plan.mode(stripe) {
+            LockMode::None => unreachable!(),
+            LockMode::Shared => look_shared(&self.memory.shared, rt, &mut seat.seat, stripe, f),
+            LockMode::Exclusive => look_exclusive(&held.parts, stripe, f),
+        }
+    }
+
+    /// Waits for the journal and answers it whole, with the limits that it had at the start of the table. The seat has it
+    /// then, and has seen all of it.
+    ///
+    /// The seat is one of this table and doesn't have the journal.
+    pub fn take_journal<R: Wait>(&self, rt: &R, seat: &mut Seat<P>) -> Journal<P::Entry>
+        requires own { seat.old.table ≡ self.now.id }
+        requires journal { has_journal seat.old ≡ false }
+        ensures same { IsSameSeat seat.old seat.new }
+        ensures journal { has_journal seat.new ≡ true }
+        ensures seen { seen_of seat.new ≡ result.entries }
+        ensures begins { StartsWith result.entries (seen_of seat.old) }
+        ensures mine { mine_of seat.new ≡ mine_of seat.old }
+        ensures limits { result.limits ≡ limits_of seat.old }
+        ensures fit { AllFit P.object result.entries }
+        ensures notes { AreNotesSeen P.object seat.new.me.0.at }
+        ensures stands { Stands P.object seat.new.me.0.at }
+        ensures held { HoldsAlike seat.old seat.new }
+    {
+        lock_journal(&self.memory.shared, rt, &mut seat.seat)
+    }
+
+    /// Gives the journal back as it was when the seat took it, with its entries and its limits.
+    ///
+    /// The seat is one of this table and has the journal.
+    pub fn give_journal(&self, seat: &mut Seat<P>, journal: Journal<P::Entry>)
+        requires own { seat.old.table ≡ self.now.id }
+        requires journal { has_journal seat.old ≡ true }
+        requires entries { journal.entries ≡ seen_of seat.old }
+        requires limits { journal.limits ≡ limits_of seat.old }
+        ensures same { IsSameSeat seat.old seat.new }
+        ensures journal { has_journal seat.new ≡ false }
+        ensures seen { seen_of seat.new ≡ seen_of seat.old }
+        ensures mine { mine_of seat.new ≡ mine_of seat.old }
+        ensures stands { Stands P.object seat.new.me.0.at }
+        ensures held { HoldsAlike seat.old seat.new }
+    {
+        put_journal(&self.memory.shared, &mut seat.seat, journal);
+    }
+
+    /// Commits the last entry of the journal: does its work, with its number, in the parts of the stripes that it writes, which
+    /// are those held exclusively, and gives the journal back with it.
+    ///
+    /// The journal is the one that the seat took, with one entry more, which the seat may make. What is held is held by the
+    /// seat, which is one of this table, and is the footprint of the entry, with every stripe looked at. The work is that of
+    /// the entry and was reserved.
+    pub fn commit(
+        &self,
+        seat: &mut Seat<P>,
+        held: &mut Held<P>,
+        journal: Journal<P::Entry>,
+        work: &P::Work,
+    )
+        requires own { seat.old.table ≡ self.now.id }
+        requires held { IsHeldBy P.bare seat.old held.old }
+        requires journal { has_journal seat.old ≡ true }
+        requires entry { (e : P.Entry) × (journal.entries ≡ seen_of seat.old ++ e ∷ []) × MayCommit P.object seat.old.me.0.at e × P.does work.now (notes P.object seat.old.me.0.at) e }
+        requires limits { journal.limits ≡ limits_of seat.old }
+        requires ready { AreReady P.ready work.now held.old.parts }
+        ensures same { IsSameSeat seat.old seat.new }
+        ensures journal { has_journal seat.new ≡ false }
+        ensures seen { seen_of seat.new ≡ journal.entries }
+        ensures mine { (e : P.Entry) → journal.entries ≡ seen_of seat.old ++ e ∷ [] → mine_of seat.new ≡ mine_of seat.old ++ e ∷ [] }
+        ensures commits { (e : P.Entry) → journal.entries ≡ seen_of seat.old ++ e ∷ [] → seat.new.me.0.at ≡ committed P.object seat.old.me.0.at e (length (seen_of seat.old) + 1) }
+        ensures held { IsHeldBy P.bare seat.new held.new }
+        ensures modes { held.new.modes ≡ held.old.modes }
+        ensures wide { held.new.wide ≡ held.old.wide }
+        ensures applied { AreChanged P.bare (worked P.applied work.now (length journal.entries)) held.old.parts held.new.parts }
+        ensures fit { AllFit P.object (seen_of seat.new) }
+        ensures notes { AreNotesSeen P.object seat.new.me.0.at }
+        ensures stands { Stands P.object seat.new.me.0.at }
+    {
+        let number = journal.len();
+        apply_all::<P>(&mut held.parts, work, number);
+        put_longer(&self.memory.shared, &mut seat.seat, journal);
     }
 
     /// Ends the table and answers its parts and its journal. It takes every seat that `start` made, in any order, each of

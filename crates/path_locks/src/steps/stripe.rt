@@ -51,7 +51,7 @@ fn lock_shared<R: Wait, P: Parted>(words: &LockWords<P>, rt: &R, seat: &mut Lock
 }
 
 /// Puts a part into its place.
-fn put<T: Drop>(parts: &mut Vec<Option<T>>, at: usize, part: T)
+pub(crate) fn put<T: Drop>(parts: &mut Vec<Option<T>>, at: usize, part: T)
     requires { at < length parts.old.items }
     ensures { parts.new.items ≡ slice_set parts.old.items at (Some part) }
 {
@@ -59,7 +59,7 @@ fn put<T: Drop>(parts: &mut Vec<Option<T>>, at: usize, part: T)
 }
 
 /// Takes what is in a place, which is then empty.
-fn pick<T: Drop>(parts: &mut Vec<Option<T>>, at: usize) -> Option<T>
+pub(crate) fn pick<T: Drop>(parts: &mut Vec<Option<T>>, at: usize) -> Option<T>
     requires { at < length parts.old.items }
     ensures picked { slice_get parts.old.items at ≡ Some result }
     ensures left { parts.new.items ≡ slice_set parts.old.items at None }

@@ -14,7 +14,7 @@ loop-other-init g c =
     let nothing : HoldsNothing s = subst (λ (z : SeatView g.row.P-Part.Denot g.row.P-Entry.Denot). HoldsNothing z) (sym c.last.view_is) (c.requires.every.nothing _ _ at) in
     record {
       own = ap (λ (z : SeatView g.row.P-Part.Denot g.row.P-Entry.Denot). z.table) c.last.view_is ∙ c.requires.every.own _ _ at;
-      rest = record { live = c.last.invariant.live; idle = nothing.idle };
+      rest = record { live = c.last.invariant.stands.live; idle = nothing.idle };
       left = left_are c.args.seats.items c.pop.new.self.items c.args.seats.items c.in-Some.last e (λ k z p. p);
       known = left_or_known c.args.seats.items c.pop.new.self.items c.args.seats.items c.in-Some.last c.last.inside.seat.me.0 c.last.inside.seat.me.0 e (λ k z p. inl p) (λ p k. k)
           (subst (λ (z : SeatView g.row.P-Part.Denot g.row.P-Entry.Denot). Knew c.last.inside.seat.me.0 (known z.me.0.at)) c.last.view_is (itself refl refl refl));

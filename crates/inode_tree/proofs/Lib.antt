@@ -1,0 +1,11 @@
+pub mod Searches
+pub mod PlaceLemmas
+pub mod ChildLemmas
+pub mod MapLemmas
+pub mod DraftLemmas
+pub mod StripeLemmas
+pub mod IdleLemmas
+pub mod ShownTree
+pub mod FrameLemmas
+pub mod IndexLemmas
+pub mod SameParts

@@ -1,0 +1,16 @@
+pub mod Rows
+pub mod Ascending
+pub mod ChildLists
+pub mod Inodes
+pub mod Changes
+pub mod Stripes
+pub mod Drafts
+pub mod StripeInside
+pub mod Idle
+pub mod Parts
+pub mod Stands
+pub mod After
+pub mod Footprints
+pub mod Framed
+pub mod Index
+pub mod Views

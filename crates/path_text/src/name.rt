@@ -137,6 +137,13 @@ impl FsName {
         self.bytes.as_slice()
     }
 
+    /// The same bytes as the name of a child of the account. The one error is want of memory.
+    pub fn name(&self, alloc: Global) -> Result<Name, AllocError>
+        ensures { IfOk result (λ name. name ≡ self.now) }
+    {
+        Name::of_bytes(alloc, self.bytes.as_slice())
+    }
+
     /// Another name with the same bytes. The one error is want of memory.
     pub fn copy(&self, alloc: Global) -> Result<FsName, AllocError>
         ensures { IfOk result (λ name. name ≡ self.now) }

@@ -32,7 +32,7 @@ impl Model for Path {
 
 impl Path {
     ghost use Rattle.std.specs.Option.{option_copied};
-    ghost use Rattle.std.specs.Prelude.{◌≡◌, ◌∷◌, [], ◌++◌, ◌<◌, true, drop, slice_get, vec_len, IfOk};
+    ghost use Rattle.std.specs.Prelude.{◌≡◌, ◌∷◌, [], ◌++◌, ◌<◌, ◌≤◌, true, length, take, drop, slice_get, vec_len, IfOk};
     ghost use Rattle.path_text.specs.Names.{is_fs_name};
     ghost use Rattle.path_text.specs.Parts.{parts_left};
     ghost use Rattle.path_text.specs.Paths.{path_cmp, is_prefix};
@@ -84,6 +84,41 @@ impl Path {
         match &self.place {
             Some(place) => place.names.as_slice(),
             None => &[],
+        }
+    }
+
+    /// All parts as names from the left, the filesystem's name first. The one error is want of memory.
+    pub fn part_names(&self, alloc: Global) -> Result<Vec<Name>, AllocError>
+        ensures { IfOk result (λ names. names.items ≡ self.now) }
+    {
+        match &self.place {
+            Some(place) => {
+                let mut names = copy_names(alloc, place.names.as_slice())?;
+                names.insert(0, place.fs.name(alloc)?)?;
+                Ok(names)
+            }
+            None => Ok(Vec::new(alloc)),
+        }
+    }
+
+    /// The path of the first parts, as many as are asked for. The one error is want of memory.
+    pub fn front(&self, alloc: Global, parts: usize) -> Result<Path, AllocError>
+        requires { parts ≤ length self.now }
+        ensures { IfOk result (λ path. path ≡ take parts self.now) }
+    {
+        match &self.place {
+            Some(place) => {
+                if parts == 0 {
+                    return Ok(Path::account());
+                }
+                Ok(Path {
+                    place: Some(Place {
+                        fs: place.fs.copy(alloc)?,
+                        names: copy_names(alloc, &place.names.as_slice()[..parts - 1])?,
+                    }),
+                })
+            }
+            None => Ok(Path::account()),
         }
     }
 

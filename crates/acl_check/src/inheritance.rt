@@ -1,0 +1,171 @@
+ghost use Rattle.std.specs.Prelude.{◌≡◌, false, [], ◌∷◌, IfOk, unwrap_or};
+ghost use Rattle.std.specs.Option.{option_copied};
+ghost use Rattle.std.specs.FinMap as fin;
+ghost use Rattle.std.specs.FinMap.{find};
+ghost use Rattle.acl_text.specs.AclChanges.{group_holder};
+ghost use Rattle.acl_text.specs.AclMaps.{map_of};
+ghost use Rattle.acl_text.specs.Acls.{IsAcl};
+ghost use Rattle.acl_text.specs.Whos.{who_cmp};
+ghost use Rattle.namespace_model.specs.Access.{acl_inherit, cut_to_mode, inherited_from, open_bits, passed_on, usual_mode, usual_umask};
+
+use crate::permission::{bits_of, both, entry_of, perm};
+use acl_text::{Acl, AclList, AclPair, AclStop, ModeBits, Perm, Who, read_acl, set, with_mode};
+use namespace_model::Kind;
+use std::alloc::{AllocError, Global};
+
+// The mode of a new node where none is asked for.
+fn usual_mode(kind: Kind) -> ModeBits
+    ensures { result ≡ usual_mode kind }
+{
+    let bits = match kind {
+        Kind::Directory => perm(7),
+        Kind::File => perm(6),
+    };
+    ModeBits {
+        sticky: false,
+        owner: bits,
+        group: bits,
+        other: bits,
+    }
+}
+
+// The umask where none is asked for.
+fn usual_umask() -> ModeBits
+    ensures { result ≡ usual_umask }
+{
+    ModeBits {
+        sticky: false,
+        owner: perm(0),
+        group: perm(2),
+        other: perm(7),
+    }
+}
+
+// The bits that a umask leaves open.
+fn open_bits(bits: Perm, umask: Perm) -> Perm
+    ensures { result ≡ open_bits bits umask }
+{
+    both(bits, perm(7 - umask.bits()))
+}
+
+// The bits of a mode that a umask leaves open.
+fn open_mode(mode: &ModeBits, umask: &ModeBits) -> ModeBits
+    ensures owner { result.owner ≡ open_bits mode.now.owner umask.now.owner }
+    ensures group { result.group ≡ open_bits mode.now.group umask.now.group }
+    ensures other { result.other ≡ open_bits mode.now.other umask.now.other }
+{
+    ModeBits {
+        sticky: mode.sticky,
+        owner: open_bits(mode.owner, umask.owner),
+        group: open_bits(mode.group, umask.group),
+        other: open_bits(mode.other, umask.other),
+    }
+}
+
+// The three base entries, without permissions.
+fn bare_list(alloc: Global) -> Result<AclList, AllocError>
+    ensures { IfOk result (λ list. list ≡ (false, Who.Owner, 0) ∷ (false, Who.OwningGroup, 0) ∷ (false, Who.Other, 0) ∷ []) }
+{
+    match read_acl(alloc, b"user::---,group::---,other::---".as_slice()) {
+        Ok(list) => Ok(list),
+        Err(AclStop::NoMemory) => Err(AllocError),
+        Err(AclStop::Fault(_)) => unreachable!(),
+    }
+}
+
+// An access list of the three base entries, without permissions, and no default list.
+fn bare_pair(alloc: Global) -> Result<AclPair, AllocError>
+    ensures { IfOk result (λ pair. pair ≡ record { access = (Who.Owner, 0) ∷ (Who.OwningGroup, 0) ∷ (Who.Other, 0) ∷ []; default = None }) }
+{
+    match set(alloc, &bare_list(alloc)?) {
+        Ok(pair) => Ok(pair),
+        Err(AclStop::NoMemory) => Err(AllocError),
+        Err(AclStop::Fault(_)) => unreachable!(),
+    }
+}
+
+// An access list of the three base entries of a mode, and no default list.
+fn base_pair(alloc: Global, mode: &ModeBits) -> Result<AclPair, AllocError>
+    ensures { IfOk result (λ pair. pair ≡ record { access = (Who.Owner, mode.now.owner) ∷ (Who.OwningGroup, mode.now.group) ∷ (Who.Other, mode.now.other) ∷ []; default = None }) }
+{
+    with_mode(alloc, &bare_pair(alloc)?, mode)
+}
+
+// What the mask of a list gives, or else its owning group.
+fn group_bits(acl: &Acl) -> Perm
+    ensures bits { result ≡ unwrap_or (find who_cmp (group_holder (map_of acl.now)) acl.now) 0 }
+    ensures acl { IsAcl acl.now }
+{
+    match entry_of(acl.entries(), &Who::Mask) {
+        Some(mask) => mask,
+        None => bits_of(acl, &Who::OwningGroup),
+    }
+}
+
+// A default list with the owner, the mask or else the owning group, and the others cut down to a mode.
+fn cut_to_mode(alloc: Global, acl: &Acl, mode: &ModeBits) -> Result<Acl, AllocError>
+    ensures { IfOk result (λ cut. cut ≡ fin.entries (cut_to_mode (map_of acl.now) mode.now)) }
+{
+    let bits = ModeBits {
+        sticky: mode.sticky,
+        owner: both(bits_of(acl, &Who::Owner), mode.owner),
+        group: both(group_bits(acl), mode.group),
+        other: both(bits_of(acl, &Who::Other), mode.other),
+    };
+    let pair = AclPair {
+        access: acl.copy(alloc)?,
+        default: None,
+    };
+    let AclPair { access, default: _ } = with_mode(alloc, &pair, &bits)?;
+    Ok(access)
+}
+
+// The default list of a new node below one with this default list.
+fn passed_on(alloc: Global, kind: Kind, acl: &Acl) -> Result<Option<Acl>, AllocError>
+    ensures { IfOk result (λ passed. passed ≡ passed_on kind acl.now) }
+{
+    match kind {
+        Kind::Directory => Ok(Some(acl.copy(alloc)?)),
+        Kind::File => Ok(None),
+    }
+}
+
+fn inherited_from(
+    alloc: Global,
+    default: &Option<Acl>,
+    kind: Kind,
+    mode: &ModeBits,
+    umask: &ModeBits,
+) -> Result<AclPair, AllocError>
+    ensures { IfOk result (λ pair. pair ≡ inherited_from default.now kind mode.now umask.now) }
+{
+    match default {
+        Some(acl) => Ok(AclPair {
+            access: cut_to_mode(alloc, acl, mode)?,
+            default: passed_on(alloc, kind, acl)?,
+        }),
+        None => base_pair(alloc, &open_mode(mode, umask)),
+    }
+}
+
+/// The lists and the sticky bit of a new node below a parent with these lists, with the permissions and the umask that were asked
+/// for. Permissions that were not are 0777 for a directory and 0666 for a file, and a umask that was not is 0027.
+///
+/// Below a parent without a default list the node has the three entries of the permissions that the umask leaves open, and no default
+/// list. Below one with a default list it has that one, with the owner, the mask (the owning group where there is none) and the others
+/// cut down to the permissions, whatever the umask is; and a directory has the default list too. The sticky bit is that of the
+/// permissions. The one error is want of memory.
+pub fn inherit(
+    alloc: Global,
+    parent: &AclPair,
+    kind: Kind,
+    permissions: Option<&ModeBits>,
+    umask: Option<&ModeBits>,
+) -> Result<(AclPair, bool), AllocError>
+    ensures { IfOk result (λ made. made ≡ acl_inherit parent.now kind (option_copied permissions.entry) (option_copied umask.entry)) }
+{
+    let mode = permissions.copied().unwrap_or(usual_mode(kind));
+    let umask = umask.copied().unwrap_or(usual_umask());
+    let lists = inherited_from(alloc, &parent.default, kind, &mode, &umask)?;
+    Ok((lists, mode.sticky))
+}

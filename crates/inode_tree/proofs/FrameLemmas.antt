@@ -1,6 +1,6 @@
 -- What an entry does rests on the parts that it reads and writes: each touched path has one id in both lists, since each front of it is
 -- touched, and so the two trees are alike there.
-use Rattle.std.proofs.Common.{◌≡◌, ◌⊎◌, inl, inr, ℕ, zero, suc, ◌+◌, ◌%◌, ◌==◌, ◌≤◌, ◌<◌, Bool, true, false, cond, ◌||◌, leb, List, [], ◌∷◌, ◌++◌, map, length, slice_get, Option, Some, None, option_map, option_and_then, is_some, IsSome, IsTrue, unwrap_or, refl, ap, sym, subst, ◌∙◌, append_assoc, add-zero, zero-add, zip, flat_map, nat_lt, arith}
+use Rattle.std.proofs.Common.{◌≡◌, ◌⊎◌, inl, inr, ℕ, zero, suc, ◌+◌, ◌%◌, ◌==◌, Bool, true, false, cond, ◌||◌, leb, List, [], ◌∷◌, ◌++◌, map, length, slice_get, Option, Some, None, option_map, option_and_then, is_some, IsSome, IsTrue, unwrap_or, refl, ap, sym, subst, ◌∙◌, append_assoc, add-zero, zero-add, zip, flat_map, nat_lt, arith}
 use Rattle.std.proofs.lemmas.Bool.{false≢true}
 use Rattle.std.proofs.lemmas.Bool.Decides.{leb_tells}
 use Rattle.std.specs.Cmp.{unsigned_Decides}
@@ -9,8 +9,8 @@ use Rattle.std.specs.FinMap.{find}
 use Rattle.std.specs.Ordering.{eq_by_cmp}
 use Rattle.std.specs.List.{list_any}
 use Rattle.path_text.specs.Paths.{path_cmp}
-use Rattle.namespace_model.specs.Nodes.{Node, is_directory, blank}
-use Rattle.namespace_model.specs.Trees.{Path, Tree, at, IsDirectory, IsLaid}
+use Rattle.namespace_model.specs.Nodes.{is_directory, blank}
+use Rattle.namespace_model.specs.Trees.{Path, at, IsDirectory, IsLaid}
 use Rattle.namespace_model.specs.Effects.{Put, Effect}
 use Rattle.namespace_model.specs.Outcomes.{Outcome, touched}
 use Rattle.namespace_model.specs.Locality.{Among, Alike}
@@ -23,9 +23,9 @@ use Rattle.inode_tree.specs.Inodes.{BareContent, directory, file, BareInode, lin
 use Rattle.inode_tree.specs.ChildLists.{name_cmp}
 use Rattle.inode_tree.specs.Parts.{Parts, inode_at, child_of, child_at, follow, id_at, node_at, tree_of}
 use Rattle.inode_tree.specs.Changes.{Part}
-use Rattle.inode_tree.specs.After.{Relink, relinks, Turn, gone, stays_at, made, id_of, turn_of, making, making_of, turns, turns_by, turned_in, part_after, parts_after, with_id, known, drawn_ids, outcome_on, turns_on, after}
+use Rattle.inode_tree.specs.After.{Relink, relinks, Turn, gone, stays_at, id_of, turn_of, making, making_of, turns, turns_by, turned_in, part_after, parts_after, with_id, known, drawn_ids, outcome_on, turns_on, after}
 use Rattle.inode_tree.specs.Footprints.{ids_of, lies_in, reads, writes, Fits, Does}
-use Rattle.inode_tree.specs.Framed.{AgreeOnFootprint, DoesTheSame, IsFramed, LeavesOthers}
+use Rattle.inode_tree.specs.Framed.{AgreeOnFootprint, IsFramed, LeavesOthers}
 use Rattle.inode_tree.proofs.ShownTree.{at-tree_of}
 
 -- ---- following names
@@ -292,7 +292,7 @@ lies_in_two s (i ∷ is) js e =
     let rest = lies_in_two s is js tests.1 in
     (ap (λ b. b || lies_in s is) tests.0 ∙ rest.0, rest.1)
 
-id_of_turn : (e : Effect) (ls : List Relink) (x : Path × ℕ) → id_of (turn_of e ls x) ≡ x.1
+pub id_of_turn : (e : Effect) (ls : List Relink) (x : Path × ℕ) → id_of (turn_of e ls x) ≡ x.1
 id_of_turn e ls x = by_test (list_any (eq_by_cmp path_cmp x.0) e.taken)
   where
     by_test : (b : Bool) → id_of (cond b (gone x.1) (stays_at x.1 x.0 (find path_cmp x.0 e.puts) ls)) ≡ x.1

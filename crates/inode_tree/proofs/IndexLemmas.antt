@@ -1,16 +1,15 @@
 -- Parts stand for a tree exactly where they have an index for it.
-use Rattle.std.proofs.Common.{◌≡◌, ◌⊎◌, inl, inr, ℕ, ◌≤◌, ◌<◌, ◌%◌, Bool, true, false, cond, leb, List, [], ◌∷◌, ◌++◌, length, slice_get, Option, Some, None, option_map, option_and_then, is_some, IsSome, unwrap_or, refl, ap, sym, subst, ◌∙◌, append_assoc, append-nil, arith}
+use Rattle.std.proofs.Common.{◌≡◌, inl, inr, ℕ, ◌≤◌, Bool, true, false, cond, leb, List, [], ◌∷◌, ◌++◌, length, Option, Some, None, option_map, option_and_then, is_some, IsSome, unwrap_or, refl, ap, sym, subst, ◌∙◌, append_assoc, append-nil, arith}
 use Rattle.std.proofs.lemmas.Bool.{false≢true}
 use Rattle.std.proofs.lemmas.Bool.Decides.{leb_tells}
 use Rattle.std.specs.FinMap as fin
-use Rattle.path_text.specs.Paths.{path_cmp, path_cmp_total, path_cmp-IsAntisymmetric}
-use Rattle.path_text.specs.Texts.{KeepsLimits}
+use Rattle.path_text.specs.Paths.{path_cmp_total, path_cmp-IsAntisymmetric}
 use Rattle.namespace_model.specs.Nodes.{Node, blank, kind_of}
 use Rattle.namespace_model.specs.Trees.{Path, Tree, at, IsTree}
 use Rattle.inode_tree.specs.Inodes.{BareInode, node_of}
 use Rattle.inode_tree.specs.Parts.{Parts, inode_at, child_of, child_at, follow, id_at, node_at, tree_of}
 use Rattle.inode_tree.specs.Stands.{AreStriped, Stands}
-use Rattle.inode_tree.specs.Index.{Places, IsIndex}
+use Rattle.inode_tree.specs.Index.{IsIndex}
 use Rattle.inode_tree.proofs.ShownTree.{at-tree_of}
 use Rattle.inode_tree.proofs.FrameLemmas.{follow-append, short_id}
 
@@ -102,7 +101,7 @@ module _ (parts : Parts) (t : Tree) (ids : Path → Option ℕ) (index : IsIndex
 
 -- ---- to an index
 
-cut_follow : (parts : Parts) (p : Path) (id : ℕ) → id_at parts p ≡ Some id → (leb (length p) 60 ≡ true) × (follow parts 0 p ≡ Some id)
+pub cut_follow : (parts : Parts) (p : Path) (id : ℕ) → id_at parts p ≡ Some id → (leb (length p) 60 ≡ true) × (follow parts 0 p ≡ Some id)
 cut_follow parts p id e = by_test (leb (length p) 60) refl e
   where
     by_test : (b : Bool) → leb (length p) 60 ≡ b → cond b (follow parts 0 p) None ≡ Some id → (leb (length p) 60 ≡ true) × (follow parts 0 p ≡ Some id)
@@ -110,7 +109,7 @@ cut_follow parts p id e = by_test (leb (length p) 60) refl e
     by_test false long k = absurd (false≢true (ap is_some k))
 
 module _ (parts : Parts) (t : Tree) (stands : Stands parts t) where
-  reached_short : (p : Path) (id : ℕ) → follow parts 0 p ≡ Some id → leb (length p) 60 ≡ true
+  pub reached_short : (p : Path) (id : ℕ) → follow parts 0 p ≡ Some id → leb (length p) 60 ≡ true
   reached_short p id e =
       let way = stands.kept id (stands.found p id e) in
       let cut = cut_follow parts way.0 id way.1 in

@@ -9,3 +9,11 @@ pub mod ShownTree
 pub mod FrameLemmas
 pub mod IndexLemmas
 pub mod SameParts
+pub mod LinkLemmas
+pub mod TurnLemmas
+pub mod PairLemmas
+pub mod FreshOnce
+pub mod MiddleParts
+pub mod AfterStands
+pub mod PromiseLemmas
+pub mod WorkedFootprints

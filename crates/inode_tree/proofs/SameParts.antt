@@ -1,5 +1,5 @@
 -- Two lists of parts with one index for one tree are one list.
-use Rattle.std.proofs.Common.{◌≡◌, ◌≢◌, ◌⊎◌, inl, inr, ℕ, zero, suc, ◌%◌, ◌==◌, pred, Bool, true, false, List, [], ◌∷◌, length, slice_get, Option, Some, None, option_and_then, is_some, IsSome, refl, ap, ap₂, sym, subst, ◌∙◌, arith}
+use Rattle.std.proofs.Common.{◌≡◌, ◌≢◌, ◌⊎◌, inl, inr, ℕ, suc, ◌%◌, ◌==◌, pred, Bool, true, false, List, [], ◌∷◌, length, slice_get, Option, Some, None, option_and_then, refl, ap, ap₂, sym, ◌∙◌, arith}
 use Rattle.std.proofs.lemmas.Bool.{false≢true}
 use Rattle.std.specs.Cmp.{nat_cmp_total, unsigned_Decides}
 use Rattle.std.specs.Cmp.Lexicographic.{nat_list_cmp_total}
@@ -7,14 +7,14 @@ use Rattle.std.specs.FinMap as fin
 use Rattle.std.specs.FinMap.{nat_cmp-IsAntisymmetric}
 use Rattle.namespace_model.specs.Nodes as model
 use Rattle.namespace_model.specs.Nodes.{Node, is_directory_content, kind_of}
-use Rattle.namespace_model.specs.Trees.{Path, Tree, at}
+use Rattle.namespace_model.specs.Trees.{Path, Tree}
 use Rattle.inode_tree.specs.Inodes.{BareContent, directory, file, BareInode, links_in, node_content, node_of}
 use Rattle.inode_tree.specs.Changes.{Part}
 use Rattle.inode_tree.specs.Parts.{Parts, inode_at, child_of}
 use Rattle.inode_tree.specs.Stands.{AreStriped}
-use Rattle.inode_tree.specs.Index.{Places, IsIndex}
+use Rattle.inode_tree.specs.Index.{IsIndex}
 use Rattle.inode_tree.proofs.MapLemmas.{name_cmp-IsAntisymmetric}
-use Rattle.inode_tree.proofs.IndexLemmas.{same_some, some_there, there}
+use Rattle.inode_tree.proofs.IndexLemmas.{same_some, some_there}
 
 eq_or : (a b : ℕ) → (a ≡ b) ⊎ (a ≢ b)
 eq_or a b = by_test (a == b) refl
@@ -47,7 +47,7 @@ same_inodes x y e k h =
       content = c i;
     }
 
-same_lists : (xs ys : List Part) → length xs ≡ length ys → ((i : ℕ) (x y : Part) → slice_get xs i ≡ Some x → slice_get ys i ≡ Some y → x ≡ y) → xs ≡ ys
+pub same_lists : (xs ys : List Part) → length xs ≡ length ys → ((i : ℕ) (x y : Part) → slice_get xs i ≡ Some x → slice_get ys i ≡ Some y → x ≡ y) → xs ≡ ys
 same_lists [] [] e h = refl
 same_lists [] (y ∷ ys) e h = absurd (omega arith)
 same_lists (x ∷ xs) [] e h = absurd (omega arith)

@@ -1,6 +1,5 @@
 -- What the tree that parts show has at each path: the node of the path's id.
-use Rattle.std.proofs.Common.{◌≡◌, ◌⊎◌, inl, inr, ℕ, zero, suc, Bool, true, false, cond, ◌&&◌, T, leb, List, [], ◌∷◌, ◌++◌, map, flat_map, length, Option, Some, None, option_map, option_and_then, is_some, IsSome, unwrap_or, refl, ap, sym, subst, ◌∙◌}
-use Rattle.std.specs.Prelude.{nat_le}
+use Rattle.std.proofs.Common.{◌≡◌, ℕ, zero, suc, Bool, true, false, cond, ◌&&◌, T, leb, List, [], ◌∷◌, ◌++◌, flat_map, length, Option, Some, None, option_map, option_and_then, unwrap_or, refl, ap, sym, ◌∙◌}
 use Rattle.std.specs.Option.{option_or}
 use Rattle.std.specs.declared.cmp.Ordering.{Ordering}
 use Rattle.std.specs.declared.cmp.Ordering.TheVariants.{Less, Equal, Greater}
@@ -11,10 +10,10 @@ use Rattle.std.specs.FinMap.Entries.{below_all}
 use Rattle.std.proofs.Math.Dec.{leb-zero, leb-suc-zero, leb-suc-suc}
 use Rattle.path_text.specs.Paths.{path_cmp, path_cmp_total}
 use Rattle.namespace_model.specs.Nodes.{Node}
-use Rattle.namespace_model.specs.Trees.{Path, Tree, at}
+use Rattle.namespace_model.specs.Trees.{Path, at}
 use Rattle.inode_tree.specs.ChildLists.{name_cmp}
 use Rattle.inode_tree.specs.Inodes.{BareInode, links_in}
-use Rattle.inode_tree.specs.Parts.{Parts, inode_at, child_of, child_at, follow, id_at, node_at, under, links_at, listing, tree_of}
+use Rattle.inode_tree.specs.Parts.{Parts, inode_at, child_of, follow, id_at, node_at, under, listing, tree_of}
 use Rattle.inode_tree.proofs.MapLemmas.{name_cmp-IsAntisymmetric}
 
 -- ---- one name more

@@ -10,7 +10,12 @@ pub mod Idle
 pub mod Parts
 pub mod Stands
 pub mod After
+pub mod Drawing
 pub mod Footprints
 pub mod Framed
 pub mod Index
 pub mod Views
+pub mod Kept
+pub mod Stops
+pub mod Promises
+pub mod WorkedParts

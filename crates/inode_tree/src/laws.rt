@@ -1,5 +1,9 @@
 ghost use Rattle.inode_tree.specs.Framed.{IsFramed, LeavesOthers};
 ghost use Rattle.inode_tree.specs.Idle.{IdleChangesNothing, OthersStay, StripesAreApart};
+ghost use Rattle.inode_tree.specs.Kept.{StandsAfter, StandsByIndex, HasIndex, HasOneList};
+ghost use Rattle.inode_tree.specs.Parts.{Parts};
+ghost use Rattle.inode_tree.specs.Promises.{NeedsNothingMore};
+ghost use Rattle.inode_tree.specs.WorkedParts.{HasWorkedFile, AReadIsOfItsWay, ACreateWritesOldAndNew, ARenameWritesBothParents};
 
 /// Nothing changes by a drop, link, unlink or edit of a node that isn't there, a link or unlink at a file, a stage or flush
 /// at a directory, a meta of the other kind, an unlink of a name that isn't there, a stage of an empty piece, and a stage or
@@ -24,4 +28,30 @@ pub fn entries_are_framed()
 /// A part that an entry doesn't write stays as it was, whatever the parts and the entry.
 pub fn other_parts_stay()
     ensures { LeavesOthers }
+{}
+
+/// Where parts stand for a tree, and an entry of a sound request drew one id for each node that it makes, none twice and none that is kept, the
+/// parts after it stand for the tree of its step, under each number. So it is for every operation.
+pub fn parts_after_stand_for_the_step()
+    ensures { StandsAfter }
+{}
+
+/// 64 parts that keep ids of their own stripes alone stand for a tree exactly where they have an index for it, which gives each path that is there its
+/// id; and two such lists of parts with one index for one tree are one list.
+pub fn an_index_tells_all_parts()
+    ensures stands { StandsByIndex }
+    ensures index { HasIndex }
+    ensures same { HasOneList }
+{}
+
+/// A stripe that an evaluator says it needs is one that isn't held: where all that a request reads and writes is held, there is no need.
+pub fn nothing_is_needed_where_all_is_held()
+    ensures { NeedsNothingMore }
+{}
+
+/// What a read of a file, a create over it and a rename of it read and write on parts in which the file has a known place.
+pub fn worked_footprints()
+    ensures a_read_is_of_its_way { (parts : Parts) → HasWorkedFile parts 131 → AReadIsOfItsWay parts }
+    ensures a_create_writes_old_and_new { (parts : Parts) → HasWorkedFile parts 131 → ACreateWritesOldAndNew parts }
+    ensures a_rename_writes_both_parents { (parts : Parts) → HasWorkedFile parts 196 → ARenameWritesBothParents parts }
 {}

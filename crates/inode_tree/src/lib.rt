@@ -16,11 +16,15 @@
 //!
 //! The tree that 64 parts show stands in `specs/Parts.antt`, and when they stand for a tree in `specs/Stands.antt`; what an entry makes of
 //! the parts in `specs/After.antt`; which stripes it reads and writes, when it fits and which work is its own in `specs/Footprints.antt`; that what it does
-//! rests on those in `specs/Framed.antt`. What a view has shown stands in `specs/Views.antt`.
+//! rests on those in `specs/Framed.antt`. That parts go on standing for a tree, and what tells all of them, stands in
+//! `specs/Kept.antt` with `specs/Index.antt`. What a view has shown stands in `specs/Views.antt`, and what every evaluator of an operation promises of
+//! its draft, or of the stripe that it needs, in `specs/Promises.antt`, with the ids that it draws in `specs/Drawing.antt` and what its stops are made
+//! of in `specs/Stops.antt`. `specs/WorkedParts.antt` has worked entries.
 #![tactic(auto)]
 
 mod change;
 mod children;
+mod draft;
 mod drafts;
 mod edits;
 mod fresh;
@@ -37,11 +41,14 @@ mod view;
 
 pub use change::{Change, Edit};
 pub use children::Children;
+pub use draft::{Draft, EvalStop};
 pub use fresh::{Fresh, id_rows_are_apart};
 pub use id::{NodeId, NodeIds};
 pub use inode::{Content, Inode};
 pub use laws::{
-    entries_are_framed, idle_changes_change_nothing, other_nodes_stay, other_parts_stay,
+    an_index_tells_all_parts, entries_are_framed, idle_changes_change_nothing,
+    nothing_is_needed_where_all_is_held, other_nodes_stay, other_parts_stay,
+    parts_after_stand_for_the_step, worked_footprints,
 };
 pub use meta::Meta;
 pub use need::{GetStop, Need};

@@ -9,6 +9,7 @@ use std::alloc::AllocError;
 pub struct Need {
     /// Below 64.
     pub stripe: u8,
+    /// Never `None`.
     pub mode: LockMode,
 }
 

@@ -240,6 +240,90 @@ fn changes_that_change_nothing(rt: HostRuntime) -> Result<(), Fail> {
     Ok(())
 }
 
+// Gives a directory of the stripe a child.
+fn enter_child(
+    alloc: Global,
+    stripe: &mut Stripe,
+    directory: u64,
+    text: &[u8],
+    child: u64,
+) -> Result<(), Fail> {
+    Ok(enter(
+        alloc,
+        stripe,
+        Change::Link(NodeId(directory), name(alloc, text)?, NodeId(child)),
+        2,
+    )?)
+}
+
+// Where a name leads from a directory of the stripe.
+fn child(
+    alloc: Global,
+    stripe: &Stripe,
+    directory: u64,
+    text: &[u8],
+) -> Result<Option<NodeId>, Fail> {
+    let name = name(alloc, text)?;
+    Ok(match stripe.node(NodeId(directory))? {
+        None => None,
+        Some(node) => match &node.inode().content {
+            Content::Directory(children) => children.get(&name),
+            Content::File(_) => None,
+        },
+    })
+}
+
+// `/data`, `/data/a` and `/data/a/f`, which the first pass makes, have the ids 1, 66 and 131, in the stripes 1, 2 and 3; the next node has the id 196, in
+// the stripe 4.
+#[test]
+fn ids_and_stripes_of_a_path(rt: HostRuntime) -> Result<(), Fail> {
+    let alloc = rt.alloc();
+    let fresh = Fresh { pass: 0, used: 0 };
+    let ids = [fresh.id(0), fresh.id(1), fresh.id(2), fresh.id(3)];
+    assert_eq!(rt; ids, [NodeId(1), NodeId(66), NodeId(131), NodeId(196)]);
+    assert!(rt; ids.map(|id| id.0 % 64) == [1, 2, 3, 4]);
+    let mut account = Stripe::new(alloc, 0);
+    let mut first = Stripe::new(alloc, 1);
+    let mut second = Stripe::new(alloc, 2);
+    let mut third = Stripe::new(alloc, 3);
+    enter(
+        alloc,
+        &mut account,
+        Change::Put(NodeId(0), directory(alloc)?),
+        1,
+    )?;
+    enter_child(alloc, &mut account, 0, b"/abc/data".as_slice(), 1)?;
+    enter(alloc, &mut first, Change::Put(ids[0], directory(alloc)?), 1)?;
+    enter_child(alloc, &mut first, 1, b"/abc/a".as_slice(), 66)?;
+    enter(
+        alloc,
+        &mut second,
+        Change::Put(ids[1], directory(alloc)?),
+        2,
+    )?;
+    enter_child(alloc, &mut second, 66, b"/abc/f".as_slice(), 131)?;
+    enter(alloc, &mut third, Change::Put(ids[2], file(alloc)?), 2)?;
+    assert_eq!(rt;
+        child(alloc, &account, 0, b"/abc/data".as_slice())?,
+        Some(NodeId(1))
+    );
+    assert_eq!(rt;
+        child(alloc, &first, 1, b"/abc/a".as_slice())?,
+        Some(NodeId(66))
+    );
+    assert_eq!(rt;
+        child(alloc, &second, 66, b"/abc/f".as_slice())?,
+        Some(NodeId(131))
+    );
+    assert_eq!(rt; child(alloc, &second, 66, b"/abc/g".as_slice())?, None);
+    assert_eq!(rt; looks(&third, 131)?, Some((2, 1, false, 0)));
+    parts_after_stand_for_the_step();
+    an_index_tells_all_parts();
+    nothing_is_needed_where_all_is_held();
+    worked_footprints();
+    Ok(())
+}
+
 // A file of 12 MiB, at which one looks 4,096 times, is there once.
 #[test]
 fn many_looks_at_a_large_file(rt: HostRuntime) -> Result<(), Fail> {

@@ -22,7 +22,8 @@ pub trait View {
     ghost over: { Self → Self.Over };
 
     /// A look at a node, for which its stripe has to be held in this mode or more. Where it fails with `Need` the stripe isn't
-    /// held so, and where it succeeds it is. Want of memory may come in either case. A look asks for a mode other than `None`.
+    /// held so, and where it succeeds it is. Want of memory may come in either case. A look asks for a mode other than `None`, and for an id
+    /// that may be asked: the account's, or one to which a directory leads that was looked at.
     fn get(&mut self, id: NodeId, mode: LockMode) -> Result<NodeRef, GetStop>
         requires known { IsKnown (shown self.old) id.0 }
         requires asks { mode ≢ Unlocked }
@@ -35,7 +36,7 @@ pub trait View {
         ensures need { (n : Need) → result ≡ Err (stop.Need n)
             → (n.stripe ≡ id.0 % 64) × (n.mode ≡ mode) × (covers (held self.old (id.0 % 64)) mode ≡ false) };
 
-    /// The mode in which a stripe is held.
+    /// The mode in which a stripe below 64 is held.
     fn mode(&self, stripe: u8) -> LockMode
         requires { stripe < 64 }
         ensures { result ≡ held self.now stripe };

@@ -1,0 +1,8 @@
+pub mod WayLemmas
+pub mod LookLemmas
+pub mod TrailLemmas
+pub mod StepLemmas
+pub mod SetLemmas
+pub mod AnswerLemmas
+pub mod FindLemmas
+pub mod LookAnswers

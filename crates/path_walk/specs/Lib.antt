@@ -1,0 +1,5 @@
+pub mod Ways
+pub mod Visits
+pub mod Trails
+pub mod Answers
+pub mod Finds

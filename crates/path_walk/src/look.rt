@@ -1,0 +1,44 @@
+//! Questions about a node that was looked at.
+ghost use Rattle.std.specs.Prelude.{◌≡◌, Option, option_map};
+ghost use Rattle.inode_tree.specs.Inodes.{node_of};
+ghost use Rattle.inode_tree.specs.Parts.{child_of};
+ghost use Rattle.inode_tree.specs.declared.id.NodeId.{NodeId};
+ghost use Rattle.namespace_model.specs.Nodes.{is_directory};
+ghost use Rattle.path_walk.specs.Ways.{may_enter};
+
+use acl_check::check;
+use acl_text::Perm;
+use inode_tree::{Content, NodeId, NodeRef};
+use namespace_model::{Caller, Refusal};
+use path_text::Name;
+
+/// The id of a directory's child of this name. It is `None` exactly where there is no such child; a file has none.
+pub fn child_of(node: &NodeRef, name: &Name) -> Option<NodeId>
+    ensures { option_map (λ (id : NodeId). id.0) result ≡ child_of node.now name.now }
+{
+    match &node.inode().content {
+        Content::Directory(children) => children.get(name),
+        Content::File(_) => None,
+    }
+}
+
+/// Whether the node is a directory.
+pub fn is_directory(node: &NodeRef) -> bool
+    ensures { result ≡ is_directory (node_of node.now) }
+{
+    match &node.inode().content {
+        Content::Directory(_) => true,
+        Content::File(_) => false,
+    }
+}
+
+/// Whether the node lets the caller through, by the check of execute: else why not.
+pub fn may_enter(node: &NodeRef, caller: &Caller) -> Result<(), Refusal>
+    ensures { result ≡ may_enter caller.now (node_of node.now) }
+{
+    let meta = &node.inode().meta;
+    match Perm::new(1) {
+        Some(execute) => check(&meta.acl.access, &meta.owner, &meta.group, caller, execute),
+        None => unreachable!(),
+    }
+}

@@ -1,7 +1,8 @@
-//! Tests of the lock protocol: conversations of seats with the pure machine.
-//!
-//! The crate has no item of its own. Expected values are written out in the tests, never taken from the program.
+//! Tests of the lock protocol: conversations of seats with the pure machine, of threads with the running table, and of passes
+//! with the store, with callers of a store of tallies.
+//! Expected values are written out in the tests, never taken from the program.
 #![tactic(auto)]
 
+pub mod callers;
 #[cfg(test)]
 mod tests;

@@ -1,0 +1,5 @@
+pub mod Bits
+pub mod Counts
+pub mod Footprints
+pub mod Grown
+pub mod Passing

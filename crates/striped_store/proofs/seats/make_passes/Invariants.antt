@@ -1,0 +1,12 @@
+use Rattle.std.proofs.Common.{◌≡◌, ◌++◌, length}
+use Rattle.std.specs.Vec.Iter.{into_iter_items}
+use Rattle.striped_store.specs.Views.{AreNewPasses}
+use Rattle.striped_store.proofs.seats.make_passes.Given as goal
+
+abbrev pub invariant-loop-seat : goal.invariant-loop-seat
+invariant-loop-seat g l = record {
+  left : l.yielded ++ into_iter_items l.seat-iterator ≡ l.fn.seats.items;
+  count : l.number ≡ length l.yielded;
+  many : length l.passes.items ≡ length l.yielded;
+  new : AreNewPasses l.table l.passes.items;
+}

@@ -1,0 +1,5 @@
+pub mod Closed
+pub mod Commits
+pub mod Passes
+pub mod Receipts
+pub mod Views

@@ -14,7 +14,7 @@ use Rattle.namespace_model.specs.declared.op.Op.TheVariants as op
 use Rattle.namespace_model.specs.declared.reply.Reply.{Reply}
 use Rattle.namespace_model.specs.declared.request.Request.{Request}
 use Rattle.namespace_model.specs.declared.request.Entry.{Entry}
-use Rattle.namespace_model.specs.Built.{IsBuilt}
+use Rattle.engine.specs.Built.{IsBuilt}
 use Rattle.namespace_model.specs.Codes.{status_of}
 use Rattle.namespace_model.specs.CreateFilesystem.{create_filesystem, filesystem_made}
 use Rattle.namespace_model.specs.Effects.{effected}

@@ -1,3 +1,4 @@
+pub mod Built
 pub mod ReplyText
 pub mod Decoded
 pub mod Stands

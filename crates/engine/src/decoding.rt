@@ -1,7 +1,8 @@
 ghost use Rattle.std.specs.Prelude.{◌≡◌, [], map, count_by, option_map, IfOk};
 ghost use Rattle.head_text.specs.Headers.{header_of};
 ghost use Rattle.std.specs.List.{list_all};
-ghost use Rattle.namespace_model.specs.Built.{IsBuilt, no_conditions};
+ghost use Rattle.engine.specs.Built.{IsBuilt};
+ghost use Rattle.namespace_model.specs.Built.{no_conditions};
 ghost use Rattle.namespace_model.specs.Sound.{IsSound};
 ghost use Rattle.engine.specs.Decoded.{decoded, asked_filesystem, named_filesystem, is_plain_name, are_taken_headers, is_taken_header, is_caller, is_other, is_unreserved, filesystem_request, other_request, making_request, refused_request};
 

@@ -1,6 +1,6 @@
 ghost use Rattle.std.specs.Prelude.{◌≡◌, ◌≤◌, IfOk};
 ghost use Rattle.conn_io.specs.declared.outside.TheConstants.{LAST_MOMENT};
-ghost use Rattle.namespace_model.specs.Built.{IsBuilt};
+ghost use Rattle.engine.specs.Built.{IsBuilt};
 ghost use Rattle.namespace_model.specs.Replies.{refusal, success, stamp_fields};
 ghost use Rattle.namespace_model.specs.Sound.{IsSound};
 ghost use Rattle.namespace_model.specs.Step.{closing};

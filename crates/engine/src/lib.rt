@@ -5,7 +5,7 @@
 //! place. `serve_solo` reads requests from a source and writes their replies to a sink; its contract is the serving theorem.
 //!
 //! So far filesystems are made, by the superuser and without properties; every other request is answered that it is not built, which
-//! decoding sees to, and `submit` requires it (`IsBuilt` of namespace_model).
+//! decoding sees to, and `submit` requires it (`IsBuilt` of specs/Built).
 //!
 //! Definitions: specs/ReplyText.antt (the bytes of replies), specs/Decoded.antt (the request of a raw one), specs/Stands.antt (what the
 //! memory of `Solo` stands for), specs/Drafts.antt (what is worked out for a request), specs/Submits.antt (one submit),
@@ -26,4 +26,5 @@ pub use decoding::decode;
 pub use end::End;
 pub use laws::replies_are_those_of_the_run;
 pub use serving::serve_solo;
-pub use solo::{Answer, Receipt, Solo, SubmitRefusal};
+pub use solo::{Answer, Solo, SubmitRefusal};
+pub use striped_store::Receipt;

@@ -6,19 +6,11 @@ use namespace_model::{Entry, Request};
 use path_text::FsName;
 use std::alloc::{AllocError, Global};
 use std::marker::Model;
+use striped_store::Receipt;
 use thiserror::Error;
 
-/// What a commit was: the entry's journal number, the stripes that were held shared and exclusively, a bit for each, and the
-/// rounds that it took. The sequential engine holds no stripes yet: its receipts have none, and one round.
-#[derive(Clone, Copy, Debug, PartialEq, Eq)]
-pub struct Receipt {
-    pub number: u64,
-    pub shared: u64,
-    pub exclusive: u64,
-    pub rounds: u32,
-}
-
-/// The text of a reply, and the receipt of its entry.
+/// The text of a reply, and the receipt of its entry. The sequential engine holds no stripes yet: its receipts have none, and one
+/// round.
 #[derive(Debug, Drop)]
 pub struct Answer {
     pub bytes: Vec<u8>,
@@ -57,7 +49,7 @@ impl Model for Solo {
 impl Solo {
     ghost use Rattle.std.specs.Prelude.{◌≡◌, ◌≤◌, ◌↔◌, [], length, IfOk, OnErr, IsErrOf};
     ghost use Rattle.conn_io.specs.declared.outside.TheConstants.{LAST_MOMENT};
-    ghost use Rattle.namespace_model.specs.Built.{IsBuilt};
+    ghost use Rattle.engine.specs.Built.{IsBuilt};
     ghost use Rattle.namespace_model.specs.Sound.{IsSound};
     ghost use Rattle.commit_journal.specs.Journal.{IsFull, IsFullFor, IsWithin};
     ghost use Rattle.engine.specs.Submits.{Submits, IsUnchanged, body_of};

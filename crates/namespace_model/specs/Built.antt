@@ -6,9 +6,12 @@ use Rattle.namespace_model.specs.declared.op.Op.{Op}
 use Rattle.namespace_model.specs.declared.op.Op.TheVariants as op
 use Rattle.namespace_model.specs.declared.request.Request.{Request}
 
--- filesystems are made, without properties
+-- filesystems are made, and files and directories, without properties and with the usual permissions; they are looked at and deleted
 abbrev pub IsBuiltOperation : Op → Type 0
 IsBuiltOperation (op.CreateFilesystem path props) = props ≡ None
+IsBuiltOperation (op.Create path kind permissions umask props) = (permissions ≡ None) × (umask ≡ None) × (props ≡ None)
+IsBuiltOperation (op.GetProperties path status) = ⊤
+IsBuiltOperation (op.Delete path recursive) = ⊤
 IsBuiltOperation (op.Refused code) = ⊤
 IsBuiltOperation other = ⊥
 

@@ -1,0 +1,24 @@
+-- The headers of a request by their names, which have no case (RFC 9110, section 5.1). Of a repeated header the first counts.
+use Rattle.std.specs.Prelude.{ℕ, Bool, false, not, List, Option, None, Some, is_some, option_map, find, bytes_eq}
+use Rattle.http_front.specs.declared.raw.Raw.{Raw}
+use Rattle.http_front.specs.Requests.{is_named}
+
+-- the value of the first header of this name, in any case
+unfoldable pub first_header : List ℕ → List (List ℕ × List ℕ) → Option (List ℕ)
+first_header name headers = option_map (λ (header : List ℕ × List ℕ). header.1) (find (is_named name) headers)
+
+abbrev pub header : List ℕ → Raw → Option (List ℕ)
+header name raw = first_header name raw.headers
+
+abbrev pub has_header : List ℕ → Raw → Bool
+has_header name raw = is_some (header name raw)
+
+-- there is a value, and it is this text byte for byte
+abbrev pub is_text : List ℕ → Option (List ℕ) → Bool
+is_text text None = false
+is_text text (Some value) = bytes_eq value text
+
+-- there is a value, and it is another text
+abbrev pub is_other_text : List ℕ → Option (List ℕ) → Bool
+is_other_text text None = false
+is_other_text text (Some value) = not (bytes_eq value text)

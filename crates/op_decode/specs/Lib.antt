@@ -1,0 +1,11 @@
+pub mod Headers
+pub mod Connections
+pub mod Methods
+pub mod Operations
+pub mod Targets
+pub mod Callers
+pub mod Unbuilt
+pub mod Parameters
+pub mod Decoded
+pub mod Ready
+pub mod Laws

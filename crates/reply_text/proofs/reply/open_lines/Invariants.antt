@@ -1,0 +1,6 @@
+use Rattle.reply_text.specs.ReplyText.{start_lines}
+use Rattle.reply_text.proofs.FieldLemmas.{SpellsFirst}
+use Rattle.reply_text.proofs.reply.open_lines.Given as goal
+
+abbrev pub invariant-loop-field : goal.invariant-loop-field
+invariant-loop-field l = SpellsFirst (start_lines l.reply.status l.moment) l.field-items l.field-index l.slots l.text.items

@@ -1,0 +1,4 @@
+pub mod Lines
+pub mod Slots
+pub mod ReplyText
+pub mod LastReply

@@ -1,0 +1,139 @@
+ghost use Rattle.std.specs.Prelude.{◌≡◌, ◌++◌, OnOk, IfOk};
+ghost use Rattle.acl_text.specs.PermTexts.{letter};
+ghost use Rattle.head_text.specs.PropertyTexts.{properties_text};
+ghost use Rattle.lease_state.specs.LeaseId.{lease_id_text};
+ghost use Rattle.reply_text.specs.Lines.{etag_text, range_text, media_text, kind_text, state_text, lock_text, duration_text, bits_text, rule_text};
+
+use acl_text::Perm;
+use head_text::{Props, write_hex16, write_props};
+use itoa::Buffer;
+use lease_state::{State, write_lease_id};
+use namespace_model::{Kind, Media, Rule};
+use std::alloc::{AllocError, Global};
+
+#[tactic(auto, unfolding(crate::specs::Lines::etag_text))]
+pub(crate) fn etag_text(number: u64) -> [u8; 20]
+    ensures { result ≡ etag_text number }
+{
+    let mut digits = [0u8; 16];
+    write_hex16(number, &mut digits);
+    let mut text = *b"\"0x0000000000000000\"";
+    text[3..19].copy_from_slice(&digits);
+    text
+}
+
+#[tactic(auto, unfolding(crate::specs::Lines::range_text))]
+pub(crate) fn range_text(alloc: Global, from: u64, to: u64, len: u64) -> Result<Vec<u8>, AllocError>
+    ensures { IfOk result (λ text. text.items ≡ range_text from to len) }
+{
+    let mut digits = Buffer::new();
+    let mut text = Vec::from_slice(alloc, b"bytes ")?;
+    text.extend_from_slice(digits.format(from).as_bytes())?;
+    text.extend_from_slice(b"-")?;
+    text.extend_from_slice(digits.format(to).as_bytes())?;
+    text.extend_from_slice(b"/")?;
+    text.extend_from_slice(digits.format(len).as_bytes())?;
+    Ok(text)
+}
+
+pub(crate) fn media_text(media: Media) -> &'static [u8]
+    ensures { result.now ≡ media_text media }
+{
+    match media {
+        Media::Json => b"application/json".as_slice(),
+        Media::Octets => b"application/octet-stream".as_slice(),
+    }
+}
+
+pub(crate) fn kind_text(kind: Kind) -> &'static [u8]
+    ensures { result.now ≡ kind_text kind }
+{
+    match kind {
+        Kind::File => b"file".as_slice(),
+        Kind::Directory => b"directory".as_slice(),
+    }
+}
+
+pub(crate) fn properties_text(alloc: Global, props: &Props) -> Result<Vec<u8>, AllocError>
+    ensures { IfOk result (λ text. text.items ≡ properties_text props.now) }
+{
+    let mut text = Vec::new(alloc);
+    write_props(props, &mut text)?;
+    Ok(text)
+}
+
+pub(crate) fn state_text(state: State) -> &'static [u8]
+    ensures { result.now ≡ state_text state }
+{
+    match state {
+        State::Available => b"available".as_slice(),
+        State::Leased => b"leased".as_slice(),
+        State::Expired => b"expired".as_slice(),
+        State::Breaking => b"breaking".as_slice(),
+        State::Broken => b"broken".as_slice(),
+    }
+}
+
+pub(crate) fn lock_text(locked: bool) -> &'static [u8]
+    ensures { result.now ≡ lock_text locked }
+{
+    if locked {
+        b"locked".as_slice()
+    } else {
+        b"unlocked".as_slice()
+    }
+}
+
+pub(crate) fn duration_text(infinite: bool) -> &'static [u8]
+    ensures { result.now ≡ duration_text infinite }
+{
+    if infinite {
+        b"infinite".as_slice()
+    } else {
+        b"fixed".as_slice()
+    }
+}
+
+pub(crate) fn lease_id_text(id: u128) -> [u8; 36]
+    ensures { result ≡ lease_id_text id }
+{
+    let mut text = [0; 36];
+    write_lease_id(id, &mut text);
+    text
+}
+
+pub(crate) fn rule_text(rule: Rule) -> &'static [u8]
+    ensures { result.now ≡ rule_text rule }
+{
+    match rule {
+        Rule::Owner => b"owner".as_slice(),
+        Rule::NamedUser => b"named-user".as_slice(),
+        Rule::Other => b"other".as_slice(),
+        Rule::Sticky => b"sticky".as_slice(),
+        Rule::AclOwner => b"acl-owner".as_slice(),
+        Rule::UserOwner => b"user-owner".as_slice(),
+        Rule::GroupOwner => b"group-owner".as_slice(),
+        Rule::SuperuserOnly => b"superuser-only".as_slice(),
+    }
+}
+
+// A letter where a bit is set, and else `-`.
+fn letter(perm: Perm, bit: u8, character: u8) -> u8
+    ensures { result ≡ letter character bit perm }
+{
+    if perm.bits() & bit == 0 {
+        b'-'
+    } else {
+        character
+    }
+}
+
+pub(crate) fn bits_text(perm: Perm) -> [u8; 3]
+    ensures { result ≡ bits_text perm }
+{
+    [
+        letter(perm, 4, b'r'),
+        letter(perm, 2, b'w'),
+        letter(perm, 1, b'x'),
+    ]
+}

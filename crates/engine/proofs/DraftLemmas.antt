@@ -1,17 +1,12 @@
 -- What is worked out for a request that is built is what the step gives.
-use Rattle.std.proofs.Common.{◌≡◌, ℕ, ◌+◌, ◌≤◌, Bool, true, false, cond, List, [], ◌∷◌, ◌++◌, length, slice_get, Some, None, Option, refl, sym, ap, ◌∙◌, append-nil, unwrap_or, lit≤, lit<, arith, rules}
-use Rattle.std.specs.Prelude.{All}
+use Rattle.std.proofs.Common.{◌≡◌, ℕ, ◌+◌, ◌≤◌, Bool, true, false, cond, List, [], ◌∷◌, ◌++◌, length, slice_get, Some, None, Option, refl, sym, ap, ◌∙◌, append-nil, unwrap_or, lit≤, lit<, arith}
 use Rattle.std.specs.Option.{option_to_list}
-use Rattle.std.proofs.lemmas.List.Elements.{All-nil}
 use Rattle.conn_io.specs.declared.outside.TheConstants.{LAST_MOMENT}
-use Rattle.http.specs.StatusCode.{IsStatusCode}
 use Rattle.namespace_model.specs.declared.code.Code.{Code}
 use Rattle.namespace_model.specs.declared.code.Code.TheVariants as code
 use Rattle.acl_text.specs.Ids.{superuser}
-use Rattle.namespace_model.specs.declared.field.Field.{Field}
-use Rattle.namespace_model.specs.declared.field.Field.TheVariants.{Close, ETag, LastModified}
+use Rattle.namespace_model.specs.declared.field.Field.TheVariants.{ETag, LastModified}
 use Rattle.namespace_model.specs.declared.op.Op.TheVariants as op
-use Rattle.namespace_model.specs.declared.reply.Reply.{Reply}
 use Rattle.namespace_model.specs.declared.request.Request.{Request}
 use Rattle.namespace_model.specs.declared.request.Entry.{Entry}
 use Rattle.engine.specs.Built.{IsBuilt}
@@ -27,33 +22,15 @@ use Rattle.namespace_model.specs.Trees.{Tree}
 use Rattle.namespace_model.proofs.Runs.{tree_push}
 use Rattle.engine.specs.declared.draft.Draft.{Draft}
 use Rattle.engine.specs.Drafts.{IsDraft, closing_fields, refused_draft, making_draft}
-use Rattle.engine.specs.ReplyText.{CanSpell, HasLine}
+use Rattle.reply_text.specs.ReplyText.{CanSpell}
+use Rattle.reply_text.proofs.Spellable.{closed_none, closing_spelled, refusal_spelled, stamped_spelled}
 use Rattle.engine.specs.Stands.{has, has_name, Stands}
 use Rattle.engine.proofs.StandsLemmas.{stands-insert}
 
 -- ---- replies can be spelled
 
-status_fits : (c : Code) → IsStatusCode (status_of c)
-status_fits code.InvalidUri = (lit≤ tt, lit< tt)
-status_fits other = (lit≤ tt, lit< tt)
-
-All-more : (f : Field) (fs : List Field) → HasLine f → All HasLine fs → All HasLine (f ∷ fs)
-All-more f fs one more = search rules
-
--- where the lines have a text, so have they with the one that ends the connection
-closing_spelled : (close : Bool) (r : Reply) → CanSpell r → CanSpell (closing close r)
-closing_spelled true r is = record { status = is.status; fields = All-more Close r.fields tt is.fields; not_denied = is.not_denied }
-closing_spelled false r is = is
-
-refusal_spelled : (c : Code) → CanSpell (refusal c)
-refusal_spelled c = record { status = status_fits c; fields = All-nil HasLine; not_denied = refl }
-
 success_spelled : (moment : ℕ) → moment ≤ LAST_MOMENT → CanSpell (success 201 (stamp_fields moment))
-success_spelled moment within = record {
-  status = (lit≤ tt, lit< tt);
-  fields = All-more (ETag None) (LastModified moment ∷ []) tt (All-more (LastModified moment) [] within (All-nil HasLine));
-  not_denied = refl;
-}
+success_spelled moment within = stamped_spelled 201 moment [] (lit≤ tt, lit< tt) within closed_none
 
 -- ---- the fields of a reply that may end its connection
 

@@ -5,7 +5,7 @@ use Rattle.namespace_model.specs.Step.{tree_of}
 use Rattle.engine.specs.declared.draft.Draft.{Draft}
 use Rattle.engine.specs.declared.solo.Answer.{Answer}
 use Rattle.commit_journal.specs.Journal.{JournalView}
-use Rattle.engine.specs.ReplyText.{reply_text}
+use Rattle.reply_text.specs.ReplyText.{reply_text}
 use Rattle.engine.specs.Stands.{Stands}
 use Rattle.engine.specs.Drafts.{IsDraft}
 use Rattle.engine.specs.Submits.{Submits, texts_of}

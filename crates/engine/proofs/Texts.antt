@@ -4,7 +4,7 @@ use Rattle.namespace_model.specs.declared.request.Entry.{Entry}
 use Rattle.namespace_model.specs.declared.reply.Reply.{Reply}
 use Rattle.namespace_model.specs.Step.{step, tree_of, replies_of}
 use Rattle.namespace_model.proofs.Runs.{replies_push, length-replies_of}
-use Rattle.engine.specs.ReplyText.{reply_text}
+use Rattle.reply_text.specs.ReplyText.{reply_text}
 use Rattle.engine.specs.Submits.{texts_from, texts_of, next_text, SpellsTheRun}
 
 texts_from_push : (n : ℕ) (rs : List Reply) (es : List Entry) (r : Reply) (e : Entry) → length rs ≡ length es

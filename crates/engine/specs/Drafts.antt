@@ -11,7 +11,7 @@ use Rattle.namespace_model.specs.Replies.{refusal, success, stamp_fields}
 use Rattle.namespace_model.specs.Trees.{Tree}
 use Rattle.namespace_model.specs.Step.{closing, outcome, step}
 use Rattle.engine.specs.declared.draft.Draft.{Draft}
-use Rattle.engine.specs.ReplyText.{CanSpell}
+use Rattle.reply_text.specs.ReplyText.{CanSpell}
 use Rattle.engine.specs.Stands.{Stands, has_name}
 
 -- an entry of this request at this moment

@@ -1,5 +1,4 @@
 pub mod Built
-pub mod ReplyText
 pub mod Decoded
 pub mod Stands
 pub mod Drafts

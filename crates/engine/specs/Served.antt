@@ -8,13 +8,13 @@ use Rattle.conn_io.specs.declared.outside.TheConstants.{LAST_MOMENT}
 use Rattle.http_front.specs.declared.answers.BadHttp.TheVariants.{NotBuilt}
 use Rattle.http_front.specs.Requests.{RequestText, print_text, IsComplete, raw_of, BeginsWithNone}
 use Rattle.http_front.specs.Reads.{IsNotBuilt}
-use Rattle.namespace_model.specs.declared.code.Code.TheVariants.{InvalidInput}
 use Rattle.namespace_model.specs.declared.request.Request.{Request}
 use Rattle.namespace_model.specs.declared.request.Entry.{Entry}
 use Rattle.engine.specs.declared.end.End.{End}
 use Rattle.engine.specs.declared.end.End.TheVariants.{Done, Spent, CutShort, BadRequest, ReadFault, WriteFault, NoMemory}
 use Rattle.engine.specs.Decoded.{decoded}
-use Rattle.engine.specs.ReplyText.{last_reply_text}
+use Rattle.reply_text.specs.declared.last.Last.TheVariants.{Bad}
+use Rattle.reply_text.specs.LastReply.{last_reply_text}
 use Rattle.engine.specs.Submits.{texts_past}
 
 -- the request that a text is decoded to
@@ -54,7 +54,7 @@ abbrev pub last_text : End → List ℕ
 last_text Done = []
 last_text Spent = []
 last_text (CutShort count) = []
-last_text (BadRequest NotBuilt) = last_reply_text InvalidInput 400
+last_text (BadRequest NotBuilt) = last_reply_text (Bad NotBuilt)
 last_text ReadFault = []
 last_text WriteFault = []
 last_text NoMemory = []

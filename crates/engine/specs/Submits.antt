@@ -5,7 +5,7 @@ use Rattle.namespace_model.specs.declared.reply.Reply.{Reply}
 use Rattle.namespace_model.specs.Step.{step, tree_of, replies_of}
 use Rattle.engine.specs.declared.solo.Answer.{Answer}
 use Rattle.commit_journal.specs.Journal.{JournalView}
-use Rattle.engine.specs.ReplyText.{reply_text}
+use Rattle.reply_text.specs.ReplyText.{reply_text}
 
 -- the texts of replies to entries with numbers from this one on
 unfoldable pub texts_from : ℕ → List Reply → List Entry → List (List ℕ)

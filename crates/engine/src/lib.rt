@@ -7,9 +7,9 @@
 //! So far filesystems are made, by the superuser and without properties; every other request is answered that it is not built, which
 //! decoding sees to, and `submit` requires it (`IsBuilt` of specs/Built).
 //!
-//! Definitions: specs/ReplyText.antt (the bytes of replies), specs/Decoded.antt (the request of a raw one), specs/Stands.antt (what the
+//! Definitions: specs/Decoded.antt (the request of a raw one), specs/Stands.antt (what the
 //! memory of `Solo` stands for), specs/Drafts.antt (what is worked out for a request), specs/Submits.antt (one submit),
-//! specs/Served.antt (one connection). The journal and its limits are those of commit_journal.
+//! specs/Served.antt (one connection). The bytes of replies are those of reply_text, the journal and its limits those of commit_journal.
 #![tactic(auto)]
 
 mod decoding;
@@ -17,9 +17,9 @@ mod draft;
 mod end;
 mod filesystems;
 mod laws;
-mod reply_text;
 mod serving;
 mod solo;
+mod spelling;
 mod writing;
 
 pub use decoding::decode;

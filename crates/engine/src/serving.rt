@@ -6,12 +6,11 @@ ghost use Rattle.engine.specs.Submits.{IsUnchanged};
 
 use super::decoding::decode;
 use super::end::End;
-use super::reply_text::spell_last;
 use super::solo::{Solo, SubmitRefusal};
+use super::spelling::spell_last;
 use super::writing::write_all;
 use conn_io::{Clock, Sink, Source};
 use http_front::{BadHttp, FrontFault, Next, Raw, Reader};
-use namespace_model::Code;
 use std::alloc::{AllocError, Global};
 
 /// Serves one connection: takes requests from the source, one after the other, puts each into the journal and writes its reply to the
@@ -97,8 +96,7 @@ fn write_last<K: Sink>(alloc: Global, sink: &mut K, bad: BadHttp) -> End
     ensures refused { Refuses (K.out sink.old) (K.out sink.new) (FrontFault.Bad bad) result }
     ensures counts { WriteCounts (K.faults sink.old) (K.faults sink.new) result }
 {
-    let BadHttp::NotBuilt = bad;
-    let Ok(text) = spell_last(alloc, Code::InvalidInput, 400) else {
+    let Ok(text) = spell_last(alloc, bad) else {
         return End::NoMemory;
     };
     match write_all(sink, text.as_slice()) {

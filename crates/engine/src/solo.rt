@@ -1,6 +1,6 @@
 use super::draft::Draft;
 use super::filesystems::draft_of;
-use super::reply_text::spell;
+use super::spelling::spell;
 use commit_journal::{Full, Journal, Limits, ReserveStop};
 use namespace_model::{Entry, Request};
 use path_text::FsName;

@@ -1,7 +1,7 @@
 use Rattle.std.proofs.Common.{◌≡◌, ℕ, ◌+◌, [], ◌∷◌, ◌++◌, length, append-nil, refl, ap, ◌∙◌}
 use Rattle.namespace_model.specs.declared.request.Entry.{Entry}
 use Rattle.commit_journal.specs.Journal.{JournalView}
-use Rattle.engine.specs.ReplyText.{reply_text}
+use Rattle.reply_text.specs.ReplyText.{reply_text}
 use Rattle.engine.proofs.DraftLemmas.{stands_next}
 use Rattle.engine.proofs.SubmitLemmas.{submits}
 use Rattle.engine.proofs.solo.Solo.submit.Goals.{in-Some+in-Ok-push, in_default-made}

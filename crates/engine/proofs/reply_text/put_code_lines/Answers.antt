@@ -1,9 +1,0 @@
-use Rattle.std.proofs.Common.{append_assoc, refl}
-use Rattle.engine.specs.ReplyText.{code_lines}
-use Rattle.engine.proofs.reply_text.put_code_lines.Goals as goal
-
-pub returns : goal.returns
-unfolding code_lines
-returns c =
-    rw (c.in_ok-put_line-3.ensures, c.in_ok-put_line-2.ensures, c.in-Some.is, c.if-head.false, c.as_bytes-2.ensures.value, c.name-2.ensures)
-    (simp append_assoc refl)

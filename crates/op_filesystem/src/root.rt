@@ -1,0 +1,79 @@
+//! The root of a new filesystem, and its name.
+ghost use Rattle.std.specs.Prelude.{◌≡◌, false, [], ◌∷◌, length, IfOk, unwrap_or};
+ghost use Rattle.namespace_model.specs.CreateFilesystem.{root_access};
+ghost use Rattle.op_filesystem.specs.Filesystems.{root_inode};
+
+use acl_text::{AclList, AclPair, AclStop, Id, Who, read_acl, set};
+use head_text::Props;
+use inode_tree::{Children, Content, Inode, Meta};
+use lease_state::Lease;
+use namespace_model::Kind;
+use path_text::{Name, Path};
+use std::alloc::{AllocError, Global};
+
+// The name of a filesystem by the path of its root.
+pub(crate) fn root_name(alloc: Global, path: &Path) -> Result<Name, AllocError>
+    requires { length path.now ≡ 1 }
+    ensures { IfOk result (λ name. path.now ≡ name ∷ []) }
+{
+    match path.fs() {
+        Some(fs) => fs.name(alloc),
+        None => unreachable!(),
+    }
+}
+
+// The three base entries of `rwxr-x---`.
+fn root_list(alloc: Global) -> Result<AclList, AllocError>
+    ensures { IfOk result (λ list. list ≡ (false, Who.Owner, 7) ∷ (false, Who.OwningGroup, 5) ∷ (false, Who.Other, 0) ∷ []) }
+{
+    match read_acl(alloc, b"user::rwx,group::r-x,other::---".as_slice()) {
+        Ok(list) => Ok(list),
+        Err(AclStop::NoMemory) => Err(AllocError),
+        Err(AclStop::Fault(_)) => unreachable!(),
+    }
+}
+
+// The access list of `rwxr-x---`, and no default list.
+fn root_access(alloc: Global) -> Result<AclPair, AllocError>
+    ensures { IfOk result (λ pair. pair ≡ root_access) }
+{
+    match set(alloc, &root_list(alloc)?) {
+        Ok(pair) => Ok(pair),
+        Err(AclStop::NoMemory) => Err(AllocError),
+        Err(AclStop::Fault(_)) => unreachable!(),
+    }
+}
+
+// The properties that were given, or none.
+fn root_props(alloc: Global, props: &Option<Props>) -> Result<Props, AllocError>
+    ensures { IfOk result (λ given. given ≡ unwrap_or props.now []) }
+{
+    match props {
+        Some(props) => props.copy(alloc),
+        None => Ok(Props::none(alloc)),
+    }
+}
+
+// The root of a new filesystem, which is the superuser's, before it has a number.
+pub(crate) fn root_inode(
+    alloc: Global,
+    moment: u64,
+    props: &Option<Props>,
+) -> Result<Inode, AllocError>
+    ensures { IfOk result (λ inode. inode ≡ root_inode moment props.now) }
+{
+    Ok(Inode {
+        meta: Meta {
+            kind: Kind::Directory,
+            owner: Id::superuser(alloc)?,
+            group: Id::superuser(alloc)?,
+            acl: root_access(alloc)?,
+            sticky: false,
+            moment,
+            number: 0,
+            props: root_props(alloc, props)?,
+            lease: Lease::Available,
+        },
+        content: Content::Directory(Children::new(alloc)),
+    })
+}

@@ -148,6 +148,30 @@ fn children(rt: HostRuntime) -> Result<(), Fail> {
 }
 
 #[test]
+fn names_and_fronts(rt: HostRuntime) -> Result<(), Fail> {
+    let path = read_plain(rt.alloc(), b"/data/a/b")?;
+    let names = path.part_names(rt.alloc())?;
+    let mut text = Vec::new(rt.alloc());
+    for name in names.as_slice() {
+        text.extend_from_slice(name.bytes())?;
+        text.extend_from_slice(b";")?;
+    }
+    assert!(rt; text.as_slice() == b"data;a;b;".as_slice());
+    for (parts, expected) in [
+        (0, b"/".as_slice()),
+        (1, b"/data".as_slice()),
+        (2, b"/data/a".as_slice()),
+        (3, b"/data/a/b".as_slice()),
+    ] {
+        assert!(rt; parts <= names.len());
+        let mut text = Vec::new(rt.alloc());
+        write_path(&path.front(rt.alloc(), parts)?, &mut text)?;
+        assert!(rt; text.as_slice() == expected);
+    }
+    Ok(())
+}
+
+#[test]
 fn queries(rt: HostRuntime) -> Result<(), Fail> {
     let (_, query) = read_target(rt.alloc(), b"/data?a=b&c=%20d+e&&k&a=z=1%26?")?;
     let query = query.copy(rt.alloc())?;

@@ -24,9 +24,9 @@ use Rattle.inode_tree.specs.Parts.{Parts, inode_at}
 use Rattle.inode_tree.specs.Stands.{Stands}
 use Rattle.inode_tree.specs.After.{drawn_ids, outcome_on, turns_on, part_after, after}
 use Rattle.inode_tree.specs.Drawing.{next_ids, DrawsRightly}
-use Rattle.inode_tree.specs.Footprints.{read_ids as ids_read, written_ids as ids_written, reads, writes, Does}
+use Rattle.inode_tree.specs.Footprints.{read_ids as ids_read, written_ids as ids_written, lies_in, reads, writes, Does}
 use Rattle.inode_tree.specs.Views.{Held, Shown, ArePossible, covers}
-use Rattle.inode_tree.specs.Promises.{IsOf, applied_from, applied_all, numbers_of, is_one_of, IsOfStep, NeedsStripe, HoldsFootprint, NeedsNothingMore}
+use Rattle.inode_tree.specs.Promises.{IsOf, applied_from, applied_all, numbers_of, is_one_of, IsOfStep, NeedsStripe, HoldsFootprint, HoldsAll, NeedsNothingMore}
 use Rattle.inode_tree.proofs.AfterStands.{after_stands}
 use Rattle.inode_tree.proofs.DraftLemmas.{get-with_node}
 use Rattle.inode_tree.proofs.FrameLemmas.{at-after}
@@ -49,6 +49,37 @@ held_so held parts e stripe mode.Shared h n = by_read (reads parts e stripe) ref
 pub needs_nothing_more : NeedsNothingMore
 needs_nothing_more held shown request moment fresh n parts t e need possible of h =
     false≢true (sym need.lacks ∙ held_so held parts e n.stripe n.mode h (need.needed parts t e possible of))
+
+-- ---- a draft holds its footprint
+
+-- an id of the list lies in the stripe
+abbrev Lies : ℕ → List ℕ → Type 0
+Lies stripe ids = (id : ℕ) × (is_one_of id ids ≡ true) × (id % 64 ≡ stripe)
+
+or_right : (b c : Bool) → c ≡ true → (b || c) ≡ true
+or_right true c e = refl
+or_right false c e = e
+
+first_or : (s i : ℕ) (is : List ℕ) → (i % 64 ≡ s) ⊎ ((i % 64 == s) ≡ false) → (lies_in s is ≡ true → Lies s is) → lies_in s (i ∷ is) ≡ true → Lies s (i ∷ is)
+first_or s i is (inl same) rest e = (i, ap (λ b. b || is_one_of i is) (number_same i), same)
+first_or s i is (inr other) rest e =
+    let r = rest (sym (ap (λ b. b || lies_in s is) other) ∙ e) in (r.0, or_right (i == r.0) (is_one_of r.0 is) r.1, r.2)
+
+lies_one : (s : ℕ) (ids : List ℕ) → lies_in s ids ≡ true → Lies s ids
+lies_one s [] e = absurd (false≢true e)
+lies_one s (i ∷ is) e = first_or s i is (number_tells (i % 64) s) (lies_one s is) e
+
+pub holds_all : HoldsAll
+holds_all held shown request moment fresh d parts t e draft possible of =
+    let step_is = draft.of_step parts t e possible of in
+    record {
+      written = λ stripe w.
+          let l = lies_one stripe (ids_written parts e) w in
+          subst (λ s. held s ≡ mode.Exclusive) l.2 (draft.held_exclusively l.0 (step_is.written_ids l.0 ∙ l.1));
+      read = λ stripe r.
+          let l = lies_one stripe (ids_read parts e) r in
+          subst (λ s. covers (held s) mode.Shared ≡ true) l.2 (draft.held_shared l.0 (step_is.read_ids l.0 ∙ l.1));
+    }
 
 -- ---- what changes leave at an id
 

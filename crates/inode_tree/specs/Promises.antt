@@ -91,6 +91,11 @@ abbrev pub NeedsNothingMore : Type 0
 NeedsNothingMore = (held : Held) (shown : Shown) (request : Request) (moment : ℕ) (fresh : Fresh) (n : Need) (parts : Parts) (t : Tree) (e : Placed)
     → IsNeed held shown request moment fresh n → ArePossible shown fresh.pass fresh.used parts t → IsOf request moment fresh t e → ¬ HoldsFootprint held parts e
 
+-- where there is a draft all of the footprint is held
+abbrev pub HoldsAll : Type 0
+HoldsAll = (held : Held) (shown : Shown) (request : Request) (moment : ℕ) (fresh : Fresh) (d : Draft) (parts : Parts) (t : Tree) (e : Placed)
+    → IsDraft held shown request moment fresh d → ArePossible shown fresh.pass fresh.used parts t → IsOf request moment fresh t e → HoldsFootprint held parts e
+
 -- ---- an answer
 
 abbrev pub IsEvaluated : Held → Shown → Request → ℕ → Fresh → Result Draft EvalStop → Type 0

@@ -2,7 +2,7 @@ ghost use Rattle.inode_tree.specs.Framed.{IsFramed, LeavesOthers};
 ghost use Rattle.inode_tree.specs.Idle.{IdleChangesNothing, OthersStay, StripesAreApart};
 ghost use Rattle.inode_tree.specs.Kept.{StandsAfter, StandsByIndex, HasIndex, HasOneList};
 ghost use Rattle.inode_tree.specs.Parts.{Parts};
-ghost use Rattle.inode_tree.specs.Promises.{NeedsNothingMore};
+ghost use Rattle.inode_tree.specs.Promises.{HoldsAll, NeedsNothingMore};
 ghost use Rattle.inode_tree.specs.WorkedParts.{HasWorkedFile, AReadIsOfItsWay, ACreateWritesOldAndNew, ARenameWritesBothParents};
 
 /// Nothing changes by a drop, link, unlink or edit of a node that isn't there, a link or unlink at a file, a stage or flush
@@ -47,6 +47,11 @@ pub fn an_index_tells_all_parts()
 /// A stripe that an evaluator says it needs is one that isn't held: where all that a request reads and writes is held, there is no need.
 pub fn nothing_is_needed_where_all_is_held()
     ensures { NeedsNothingMore }
+{}
+
+/// An evaluator that has a draft holds all that the request reads and writes.
+pub fn a_draft_holds_its_footprint()
+    ensures { HoldsAll }
 {}
 
 /// What a read of a file, a create over it and a rename of it read and write on parts in which the file has a known place.

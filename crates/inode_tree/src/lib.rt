@@ -46,9 +46,9 @@ pub use fresh::{Fresh, id_rows_are_apart};
 pub use id::{NodeId, NodeIds};
 pub use inode::{Content, Inode};
 pub use laws::{
-    an_index_tells_all_parts, entries_are_framed, idle_changes_change_nothing,
-    nothing_is_needed_where_all_is_held, other_nodes_stay, other_parts_stay,
-    parts_after_stand_for_the_step, worked_footprints,
+    a_draft_holds_its_footprint, an_index_tells_all_parts, entries_are_framed,
+    idle_changes_change_nothing, nothing_is_needed_where_all_is_held, other_nodes_stay,
+    other_parts_stay, parts_after_stand_for_the_step, worked_footprints,
 };
 pub use meta::Meta;
 pub use need::{GetStop, Need};

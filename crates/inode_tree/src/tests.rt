@@ -319,6 +319,7 @@ fn ids_and_stripes_of_a_path(rt: HostRuntime) -> Result<(), Fail> {
     assert_eq!(rt; looks(&third, 131)?, Some((2, 1, false, 0)));
     parts_after_stand_for_the_step();
     an_index_tells_all_parts();
+    a_draft_holds_its_footprint();
     nothing_is_needed_where_all_is_held();
     worked_footprints();
     Ok(())

@@ -1,4 +1,4 @@
--- How the effect of a step lies on the tree: what it touches is written, and it leaves a tree.
+-- How the effect of a step lies on the tree: what it touches is written.
 use Rattle.std.specs.Prelude.{◌≡◌, ◌⊎◌, true, false, List, [], ◌++◌, map, Option, Some, None, IfSome, IsSome}
 use Rattle.std.specs.FinMap.{find}
 use Rattle.path_text.specs.Paths.{path_cmp, is_prefix}

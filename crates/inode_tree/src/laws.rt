@@ -18,9 +18,9 @@ pub fn other_nodes_stay()
     ensures stripes { StripesAreApart }
 {}
 
-/// What an entry does rests on the parts that it reads and writes: on another list of parts that agrees on those, whatever the rest, it reads,
-/// writes and replies the same and leaves the same in the parts that it writes, it fits after the same entries of its pass, and the same
-/// work is its own. Nothing is asked of the parts nor of the entry, and they need not stand for a tree.
+/// What an entry does rests on the parts that it reads and writes: on another list of parts that agrees on those, whatever the
+/// rest, it reads, writes and replies the same and leaves the same in the parts that it writes, it fits after the same entries of
+/// its pass, and the same work is its own. Nothing is asked of the parts nor of the entry, and they need not stand for a tree.
 pub fn entries_are_framed()
     ensures { IsFramed }
 {}
@@ -30,14 +30,14 @@ pub fn other_parts_stay()
     ensures { LeavesOthers }
 {}
 
-/// Where parts stand for a tree, and an entry of a sound request drew one id for each node that it makes, none twice and none that is kept, the
-/// parts after it stand for the tree of its step, under each number. So it is for every operation.
+/// Where parts stand for a tree, and an entry of a sound request drew one id for each node that it makes, none twice and none that
+/// is kept, the parts after it stand for the tree of its step, under each number. So it is for every operation.
 pub fn parts_after_stand_for_the_step()
     ensures { StandsAfter }
 {}
 
-/// 64 parts that keep ids of their own stripes alone stand for a tree exactly where they have an index for it, which gives each path that is there its
-/// id; and two such lists of parts with one index for one tree are one list.
+/// 64 parts that keep ids of their own stripes alone stand for a tree exactly where they have an index for it, which gives each
+/// path that is there its id; and two such lists of parts with one index for one tree are one list.
 pub fn an_index_tells_all_parts()
     ensures stands { StandsByIndex }
     ensures index { HasIndex }

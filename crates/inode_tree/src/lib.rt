@@ -14,12 +14,13 @@
 //! part: `specs/Changes.antt`, with those that change nothing in `specs/Idle.antt`. What contracts see of a stripe:
 //! `specs/Stripes.antt`. The ids that passes give to new nodes: `specs/Rows.antt`.
 //!
-//! The tree that 64 parts show stands in `specs/Parts.antt`, and when they stand for a tree in `specs/Stands.antt`; what an entry makes of
-//! the parts in `specs/After.antt`; which stripes it reads and writes, when it fits and which work is its own in `specs/Footprints.antt`; that what it does
-//! rests on those in `specs/Framed.antt`. That parts go on standing for a tree, and what tells all of them, stands in
-//! `specs/Kept.antt` with `specs/Index.antt`. What a view has shown stands in `specs/Views.antt`, and what every evaluator of an operation promises of
-//! its draft, or of the stripe that it needs, in `specs/Promises.antt`, with the ids that it draws in `specs/Drawing.antt` and what its stops are made
-//! of in `specs/Stops.antt`. `specs/WorkedParts.antt` has worked entries.
+//! The tree that 64 parts show stands in `specs/Parts.antt`, and when they stand for a tree in `specs/Stands.antt`; what an entry
+//! makes of the parts in `specs/After.antt`; which stripes it reads and writes, when it fits and which work is its own in
+//! `specs/Footprints.antt`; that what it does rests on those in `specs/Framed.antt`. That parts go on standing for a tree, and what
+//! tells all of them, stands in `specs/Kept.antt` with `specs/Index.antt`. What a view has shown stands in `specs/Views.antt`, and
+//! what every evaluator of an operation promises of its draft, or of the stripe that it needs, in `specs/Promises.antt`, with the
+//! ids that it draws in `specs/Drawing.antt` and what its stops are made of in `specs/Stops.antt`. `specs/WorkedParts.antt` has
+//! worked entries.
 #![tactic(auto)]
 
 mod change;

@@ -273,8 +273,8 @@ fn child(
     })
 }
 
-// `/data`, `/data/a` and `/data/a/f`, which the first pass makes, have the ids 1, 66 and 131, in the stripes 1, 2 and 3; the next node has the id 196, in
-// the stripe 4.
+// `/data`, `/data/a` and `/data/a/f`, which the first pass makes, have the ids 1, 66 and 131, in the stripes 1, 2 and 3; the next
+// node has the id 196, in the stripe 4.
 #[test]
 fn ids_and_stripes_of_a_path(rt: HostRuntime) -> Result<(), Fail> {
     let alloc = rt.alloc();

@@ -21,9 +21,9 @@ pub trait View {
     // What it is a view of.
     ghost over: { Self → Self.Over };
 
-    /// A look at a node, for which its stripe has to be held in this mode or more. Where it fails with `Need` the stripe isn't
-    /// held so, and where it succeeds it is. Want of memory may come in either case. A look asks for a mode other than `None`, and for an id
-    /// that may be asked: the account's, or one to which a directory leads that was looked at.
+    /// A look at a node, for which its stripe has to be held in this mode or more. Where it fails with `Need` the stripe isn't held
+    /// so, and where it succeeds it is. Want of memory may come in either case. A look asks for a mode other than `None`, and for
+    /// an id that may be asked: the account's, or one to which a directory leads that was looked at.
     fn get(&mut self, id: NodeId, mode: LockMode) -> Result<NodeRef, GetStop>
         requires known { IsKnown (shown self.old) id.0 }
         requires asks { mode ≢ Unlocked }

@@ -14,8 +14,9 @@ use path_text::Path;
 use path_walk::{Find, answered, look_up};
 use std::alloc::{AllocError, Global};
 
-/// Works out what a request for the properties of a node replies at this moment, in milliseconds since 1970 (Path - Get Properties of the REST reference). Where a
-/// node that is read lies in a stripe that isn't held at least shared, the answer is `Need`; want of memory may come at any time.
+/// Works out what a request for the properties of a node replies at this moment, in milliseconds since 1970 (Path - Get Properties
+/// of the REST reference). Where a node that is read lies in a stripe that isn't held at least shared, the answer is `Need`; want
+/// of memory may come at any time.
 ///
 /// The request is a sound one for the properties of a node. No ids are drawn.
 pub fn eval_meta<V: View>(

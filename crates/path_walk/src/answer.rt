@@ -34,9 +34,9 @@ pub fn denial(alloc: Global, denied: Denied) -> Reply
     reply
 }
 
-/// The refusal of a request whose way ends before the parent of its path: a denial where access is denied, `FilesystemNotFound` where the filesystem is missing, and
-/// this code where a directory is missing or a file stands in the way. A way that is reached is no such end; for it the refusal by the code stands in. It takes no
-/// memory.
+/// The refusal of a request whose way ends before the parent of its path: a denial where access is denied, `FilesystemNotFound`
+/// where the filesystem is missing, and this code where a directory is missing or a file stands in the way. A way that is reached
+/// is no such end; for it the refusal by the code stands in. It takes no memory.
 pub fn stop_reply(alloc: Global, code: Code, end: End) -> Reply
     ensures { result ≡ stop_reply code end }
 {

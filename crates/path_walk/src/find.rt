@@ -36,8 +36,8 @@ pub struct Find {
     pub found: Found,
 }
 
-/// Goes the way to a path, which is not the account's, and looks at its node. Each node is looked at, for which its stripe has to be held at least shared:
-/// where it isn't, the answer is `Need`. Want of memory may come at any time.
+/// Goes the way to a path, which is not the account's, and looks at its node. Each node is looked at, for which its stripe has to
+/// be held at least shared: where it isn't, the answer is `Need`. Want of memory may come at any time.
 pub fn look_up<V: View>(
     alloc: Global,
     view: &mut V,

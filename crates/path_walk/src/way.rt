@@ -44,8 +44,8 @@ pub(crate) enum Step {
     Ended(Visit),
 }
 
-/// Goes the way from the account to the parent of a path, which is not the account's. Each node of the way is looked at, for which its stripe has to be held at
-/// least shared: where it isn't, the answer is `Need`. Want of memory may come at any time.
+/// Goes the way from the account to the parent of a path, which is not the account's. Each node of the way is looked at, for which
+/// its stripe has to be held at least shared: where it isn't, the answer is `Need`. Want of memory may come at any time.
 pub fn visit<V: View>(
     alloc: Global,
     view: &mut V,
@@ -70,8 +70,9 @@ pub fn visit<V: View>(
     )
 }
 
-/// The ids from the account to the parent of a path, which is not the account's; else why the way to it ends before. Each node of the way is looked at, for
-/// which its stripe has to be held at least shared: where it isn't, the answer is `Need`. Want of memory may come at any time.
+/// The ids from the account to the parent of a path, which is not the account's; else why the way to it ends before. Each node of
+/// the way is looked at, for which its stripe has to be held at least shared: where it isn't, the answer is `Need`. Want of memory
+/// may come at any time.
 pub fn walk<V: View>(
     alloc: Global,
     view: &mut V,

@@ -26,7 +26,7 @@ use Rattle.inode_tree.specs.After.{drawn_ids, outcome_on, turns_on, part_after, 
 use Rattle.inode_tree.specs.Drawing.{next_ids, DrawsRightly}
 use Rattle.inode_tree.specs.Footprints.{read_ids as ids_read, written_ids as ids_written, lies_in, reads, writes, Does}
 use Rattle.inode_tree.specs.Views.{Held, Shown, ArePossible, covers}
-use Rattle.inode_tree.specs.Promises.{IsOf, applied_from, applied_all, numbers_of, is_one_of, IsOfStep, NeedsStripe, HoldsFootprint, HoldsAll, NeedsNothingMore}
+use Rattle.inode_tree.specs.Promises.{IsEntryOf, applied_from, applied_all, numbers_of, is_one_of, IsOfStep, NeedsStripe, HoldsFootprint, HoldsAll, NeedsNothingMore}
 use Rattle.inode_tree.proofs.AfterStands.{after_stands}
 use Rattle.inode_tree.proofs.DraftLemmas.{get-with_node}
 use Rattle.inode_tree.proofs.FrameLemmas.{at-after}
@@ -65,7 +65,8 @@ first_or s i is (inl same) rest e = (i, ap (λ b. b || is_one_of i is) (number_s
 first_or s i is (inr other) rest e =
     let r = rest (sym (ap (λ b. b || lies_in s is) other) ∙ e) in (r.0, or_right (i == r.0) (is_one_of r.0 is) r.1, r.2)
 
-lies_one : (s : ℕ) (ids : List ℕ) → lies_in s ids ≡ true → Lies s ids
+-- an id that lies in a stripe in which one of the list lies
+pub lies_one : (s : ℕ) (ids : List ℕ) → lies_in s ids ≡ true → (id : ℕ) × (is_one_of id ids ≡ true) × (id % 64 ≡ s)
 lies_one s [] e = absurd (false≢true e)
 lies_one s (i ∷ is) e = first_or s i is (number_tells (i % 64) s) (lies_one s is) e
 
@@ -184,7 +185,7 @@ row_rises pass used j k e = omega arith
 -- ---- a draft
 
 module _ (shown : Shown) (request : Request) (moment : ℕ) (fresh : Fresh) (parts : Parts) (t : Tree) (e : Placed)
-    (possible : ArePossible shown fresh.pass fresh.used parts t) (of : IsOf request moment fresh t e) where
+    (possible : ArePossible shown fresh.pass fresh.used parts t) (of : IsEntryOf request moment fresh t e) where
   ids_drawn : drawn_ids e ≡ map (λ (i : NodeId). i.0) (next_ids fresh.pass fresh.used (length (new_paths t e.entry)))
   ids_drawn = ap (λ (ids : List NodeId). map (λ (i : NodeId). i.0) ids) of.draws
 

@@ -25,7 +25,7 @@ use Rattle.inode_tree.specs.Views.{Held, Shown, ArePossible, covers}
 -- ---- the entry of a request
 
 -- An entry of this request and moment, wherever it came from, by the pass whose ids are drawn: the next ones, one for each new path.
-pub record IsOf (request : Request) (moment : ℕ) (fresh : Fresh) (t : Tree) (e : Placed) : Type 0 where
+pub record IsEntryOf (request : Request) (moment : ℕ) (fresh : Fresh) (t : Tree) (e : Placed) : Type 0 where
   pub asks : e.entry.request ≡ request
   pub comes_at : e.entry.moment ≡ moment
   pub by : e.pass ≡ fresh.pass
@@ -62,7 +62,7 @@ pub record IsOfStep (d : Draft) (parts : Parts) (t : Tree) (e : Placed) : Type 0
 -- A draft for a view that holds stripes so and has shown these parts: it is that of the step for all parts that are possible and each such entry; what
 -- it writes is held exclusively; what it reads is held at least shared, and was looked at.
 pub record IsDraft (held : Held) (shown : Shown) (request : Request) (moment : ℕ) (fresh : Fresh) (d : Draft) : Type 0 where
-  pub of_step : (parts : Parts) (t : Tree) (e : Placed) → ArePossible shown fresh.pass fresh.used parts t → IsOf request moment fresh t e → IsOfStep d parts t e
+  pub of_step : (parts : Parts) (t : Tree) (e : Placed) → ArePossible shown fresh.pass fresh.used parts t → IsEntryOf request moment fresh t e → IsOfStep d parts t e
   pub held_exclusively : (id : ℕ) → is_one_of id (numbers_of d.writes.items) ≡ true → held (id % 64) ≡ mode.Exclusive
   pub held_shared : (id : ℕ) → is_one_of id (numbers_of d.reads.items) ≡ true → covers (held (id % 64)) mode.Shared ≡ true
   pub looked_at : (id : ℕ) → is_one_of id (numbers_of d.reads.items) ≡ true → IsSome (shown (id % 64))
@@ -79,7 +79,7 @@ NeedsStripe mode.Exclusive stripe parts e = writes parts e stripe ≡ true
 pub record IsNeed (held : Held) (shown : Shown) (request : Request) (moment : ℕ) (fresh : Fresh) (n : Need) : Type 0 where
   pub within : n.stripe < 64
   pub lacks : covers (held n.stripe) n.mode ≡ false
-  pub needed : (parts : Parts) (t : Tree) (e : Placed) → ArePossible shown fresh.pass fresh.used parts t → IsOf request moment fresh t e → NeedsStripe n.mode n.stripe parts e
+  pub needed : (parts : Parts) (t : Tree) (e : Placed) → ArePossible shown fresh.pass fresh.used parts t → IsEntryOf request moment fresh t e → NeedsStripe n.mode n.stripe parts e
 
 -- all that an entry reads and writes is held
 pub record HoldsFootprint (held : Held) (parts : Parts) (e : Placed) : Type 0 where
@@ -89,12 +89,12 @@ pub record HoldsFootprint (held : Held) (parts : Parts) (e : Placed) : Type 0 wh
 -- where all of the footprint is held nothing is needed
 abbrev pub NeedsNothingMore : Type 0
 NeedsNothingMore = (held : Held) (shown : Shown) (request : Request) (moment : ℕ) (fresh : Fresh) (n : Need) (parts : Parts) (t : Tree) (e : Placed)
-    → IsNeed held shown request moment fresh n → ArePossible shown fresh.pass fresh.used parts t → IsOf request moment fresh t e → ¬ HoldsFootprint held parts e
+    → IsNeed held shown request moment fresh n → ArePossible shown fresh.pass fresh.used parts t → IsEntryOf request moment fresh t e → ¬ HoldsFootprint held parts e
 
 -- where there is a draft all of the footprint is held
 abbrev pub HoldsAll : Type 0
 HoldsAll = (held : Held) (shown : Shown) (request : Request) (moment : ℕ) (fresh : Fresh) (d : Draft) (parts : Parts) (t : Tree) (e : Placed)
-    → IsDraft held shown request moment fresh d → ArePossible shown fresh.pass fresh.used parts t → IsOf request moment fresh t e → HoldsFootprint held parts e
+    → IsDraft held shown request moment fresh d → ArePossible shown fresh.pass fresh.used parts t → IsEntryOf request moment fresh t e → HoldsFootprint held parts e
 
 -- ---- an answer
 

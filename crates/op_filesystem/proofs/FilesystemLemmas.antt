@@ -40,7 +40,7 @@ use Rattle.inode_tree.specs.Drawing.{next_ids}
 use Rattle.inode_tree.specs.Footprints.{ids_of, lies_in, written_ids}
 use Rattle.inode_tree.specs.Inodes.{BareContent, BareInode, directory, file}
 use Rattle.inode_tree.specs.Parts.{Parts, inode_at, child_of, follow}
-use Rattle.inode_tree.specs.Promises.{IsOf, numbers_of, is_one_of, IsOfStep, IsDraft, IsNeed, IsEvaluated}
+use Rattle.inode_tree.specs.Promises.{IsEntryOf, numbers_of, is_one_of, IsOfStep, IsDraft, IsNeed, IsEvaluated}
 use Rattle.inode_tree.specs.Rows.{fresh_id}
 use Rattle.inode_tree.specs.Stops.{stop_of_get}
 use Rattle.inode_tree.specs.Views.{Held, Shown, Agrees, ArePossible, covers, shown_at}
@@ -236,7 +236,7 @@ module _ (held : Held) (shown : Shown) (request : Request) (moment : ℕ) (fresh
     abbrev outcome_of : Outcome
     outcome_of = made_outcome n id request.close moment props
 
-    module _ (parts : Parts) (t : Tree) (e : Placed) (possible : ArePossible shown fresh.pass fresh.used parts t) (of : IsOf request moment fresh t e) where
+    module _ (parts : Parts) (t : Tree) (e : Placed) (possible : ArePossible shown fresh.pass fresh.used parts t) (of : IsEntryOf request moment fresh t e) where
       none_there : follow parts 0 (n ∷ []) ≡ None
       none_there = leads_to parts possible.agrees None free
 

@@ -27,7 +27,7 @@ use Rattle.inode_tree.specs.After.{known, relinks, turns, drawn_ids, outcome_on,
 use Rattle.inode_tree.specs.Drawing.{next_ids}
 use Rattle.inode_tree.specs.Footprints.{ids_of, lies_in, writes}
 use Rattle.inode_tree.specs.Parts.{Parts, inode_at}
-use Rattle.inode_tree.specs.Promises.{IsOf, numbers_of, is_one_of, IsOfStep, IsDraft, IsNeed, NeedsStripe}
+use Rattle.inode_tree.specs.Promises.{IsEntryOf, numbers_of, is_one_of, IsOfStep, IsDraft, IsNeed, NeedsStripe}
 use Rattle.inode_tree.specs.Views.{Held, Shown, ArePossible, covers}
 use Rattle.inode_tree.proofs.PromiseLemmas.{of_step, outcome_there, changed_by}
 use Rattle.inode_tree.proofs.TurnLemmas.{turned_by}
@@ -76,7 +76,7 @@ no_turns o parts ids number id before written fresh =
     either false = refl
 
 module _ (shown : Shown) (request : Request) (moment : ℕ) (fresh : Fresh) (parts : Parts) (t : Tree) (e : Placed)
-    (possible : ArePossible shown fresh.pass fresh.used parts t) (of : IsOf request moment fresh t e) (sound : IsSound request) (ps : List Path) (reply : Reply) (ends : acts_of t e ≡ reading ps (answered reply)) where
+    (possible : ArePossible shown fresh.pass fresh.used parts t) (of : IsEntryOf request moment fresh t e) (sound : IsSound request) (ps : List Path) (reply : Reply) (ends : acts_of t e ≡ reading ps (answered reply)) where
   nothing_new : length (new_paths t e.entry) ≡ 0
   nothing_new = ap (λ (l : List Path). length l) (outcome_fresh t e ps reply ends)
 
@@ -106,7 +106,7 @@ module _ (shown : Shown) (request : Request) (moment : ℕ) (fresh : Fresh) (par
 -- An answer is a draft where it is one of the step for all possible parts, and each node that was read was looked at.
 pub answer_is_draft : (held : Held) (shown : Shown) (request : Request) (moment : ℕ) (fresh : Fresh) (reply : Reply) (ids : List NodeId) (d : Draft) → IsSound request → AreLookedAt held shown ids
     → IsAnswered request.close reply ids d
-    → ((parts : Parts) (t : Tree) (e : Placed) → ArePossible shown fresh.pass fresh.used parts t → IsOf request moment fresh t e
+    → ((parts : Parts) (t : Tree) (e : Placed) → ArePossible shown fresh.pass fresh.used parts t → IsEntryOf request moment fresh t e
     → (ps : List Path) × (acts_of t e ≡ reading ps (answered reply)) × ((id : ℕ) → is_one_of id (numbers_of ids) ≡ is_one_of id (ids_of parts ps)))
     → IsDraft held shown request moment fresh d
 answer_is_draft held shown request moment fresh reply ids d sound looked is says = record {
@@ -122,7 +122,7 @@ answer_is_draft held shown request moment fresh reply ids d sound looked is says
 
 -- A stripe of paths that an entry reads is needed, where it isn't held.
 pub read_need : (held : Held) (shown : Shown) (request : Request) (moment : ℕ) (fresh : Fresh) (n : Need) → n.stripe < 64 → n.mode ≡ mode.Shared → covers (held n.stripe) mode.Shared ≡ false
-    → ((parts : Parts) (t : Tree) (e : Placed) → ArePossible shown fresh.pass fresh.used parts t → IsOf request moment fresh t e
+    → ((parts : Parts) (t : Tree) (e : Placed) → ArePossible shown fresh.pass fresh.used parts t → IsEntryOf request moment fresh t e
     → (ps : List Path) × ((p : Path) → Among p ps → Among p (outcome t e.entry).read) × (lies_in n.stripe (ids_of parts ps) ≡ true))
     → IsNeed held shown request moment fresh n
 read_need held shown request moment fresh n within asks lacks says = record {
@@ -137,7 +137,7 @@ read_need held shown request moment fresh n within asks lacks says = record {
 
 -- a stripe of the way is needed by an entry that walks
 pub way_need : (held : Held) (shown : Shown) (request : Request) (moment : ℕ) (fresh : Fresh) (caller : Caller) (path : Path) (n : Need) → IsOnTheWay held shown caller path n
-    → ((parts : Parts) (t : Tree) (e : Placed) → ArePossible shown fresh.pass fresh.used parts t → IsOf request moment fresh t e → (after : Outcome) × (acts_of t e ≡ reading (read_on t caller path) after))
+    → ((parts : Parts) (t : Tree) (e : Placed) → ArePossible shown fresh.pass fresh.used parts t → IsEntryOf request moment fresh t e → (after : Outcome) × (acts_of t e ≡ reading (read_on t caller path) after))
     → IsNeed held shown request moment fresh n
 way_need held shown request moment fresh caller path n on says =
     read_need held shown request moment fresh n on.within on.asks on.lacks (λ parts t e possible of.

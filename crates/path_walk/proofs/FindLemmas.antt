@@ -37,7 +37,7 @@ use Rattle.path_walk.specs.Visits.{end_of, IsVisitFor, AreLookedAt, IsOnTheWay, 
 use Rattle.path_walk.specs.Ways.{Way, reached, missing, blocked, closed, base_of, way_of, read_on}
 use Rattle.path_walk.proofs.SetLemmas.{lies_more}
 use Rattle.path_walk.proofs.StepLemmas.{reached_way}
-use Rattle.path_walk.proofs.TrailLemmas.{agreed, agrees_before, looked_grows, looked_more}
+use Rattle.path_walk.proofs.TrailLemmas.{agreed, agrees_before, looked_grows, looked_more, numbers-append}
 
 -- ---- the last name
 
@@ -84,9 +84,6 @@ module _ (parts : Parts) (t : Tree) (stands : Stands parts t) (caller : Caller) 
 ids_of_append : (parts : Parts) (ps qs : List Path) → ids_of parts (ps ++ qs) ≡ ids_of parts ps ++ ids_of parts qs
 ids_of_append parts ps qs =
     ap (map (λ (z : Path × ℕ). z.1)) (flat_map-append (λ (p : Path). with_id p (id_at parts p)) ps qs) ∙ map-append (λ (z : Path × ℕ). z.1) (known parts ps) (known parts qs)
-
-numbers-append : (xs ys : List NodeId) → numbers_of (xs ++ ys) ≡ numbers_of xs ++ numbers_of ys
-numbers-append xs ys = map-append (λ (i : NodeId). i.0) xs ys
 
 -- what was found
 module _ (held : Held) (old new : Shown) (caller : Caller) (path : Path) (n : List ℕ) (v : Visit) (grows : Grows old new) (visited : IsVisitFor old caller path v) (looked : AreLookedAt held old v.ids)

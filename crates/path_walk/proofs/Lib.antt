@@ -6,3 +6,4 @@ pub mod SetLemmas
 pub mod AnswerLemmas
 pub mod FindLemmas
 pub mod LookAnswers
+pub mod HoldLemmas

@@ -14,6 +14,7 @@ use Rattle.inode_tree.specs.After.{known}
 use Rattle.inode_tree.specs.Promises.{is_one_of}
 use Rattle.inode_tree.proofs.TurnLemmas.{Within}
 use Rattle.inode_tree.proofs.PairLemmas.{known_has, known_is}
+use Rattle.inode_tree.proofs.PromiseLemmas.{lies_one}
 
 either_true : (b : Bool) → (b || true) ≡ true
 either_true true = refl
@@ -67,17 +68,7 @@ once_among q (p ∷ ps) (inr h) = inr (once_among q ps (filtered (λ r. not (eq_
 pub ids_once : (parts : Parts) (ps : List Path) (id : ℕ) → is_one_of id (ids_of parts (once ps)) ≡ is_one_of id (ids_of parts ps)
 ids_once parts ps id = same_ids parts (once ps) ps (λ p h. once_among p ps h) (λ p h. among_once p ps h) id
 
--- a stripe in which an id lies
-lies_one : (stripe : ℕ) (ids : List ℕ) → lies_in stripe ids ≡ true → (id : ℕ) × (is_one_of id ids ≡ true) × (id % 64 ≡ stripe)
-lies_one stripe [] e = absurd (false≢true e)
-lies_one stripe (i ∷ is) e = by_first (i % 64 == stripe) refl e (lies_one stripe is)
-  where
-    by_first : (b : Bool) → (i % 64 == stripe) ≡ b → (b || lies_in stripe is) ≡ true → (lies_in stripe is ≡ true → (id : ℕ) × (is_one_of id is ≡ true) × (id % 64 ≡ stripe))
-        → (id : ℕ) × (is_one_of id (i ∷ is) ≡ true) × (id % 64 ≡ stripe)
-    by_first true here h more = (i, ap (λ b. b || is_one_of i is) ((unsigned_Decides i i).1 refl), (unsigned_Decides (i % 64) stripe).0 here)
-    by_first false other h more = let rest = more h in (rest.0, ap (λ b. (i == rest.0) || b) rest.1 ∙ either_true (i == rest.0), rest.2)
-
-one_lies : (stripe id : ℕ) (ids : List ℕ) → is_one_of id ids ≡ true → id % 64 ≡ stripe → lies_in stripe ids ≡ true
+pub one_lies : (stripe id : ℕ) (ids : List ℕ) → is_one_of id ids ≡ true → id % 64 ≡ stripe → lies_in stripe ids ≡ true
 one_lies stripe id [] e own = absurd (false≢true e)
 one_lies stripe id (i ∷ is) e own = by_first (i == id) refl e (λ h. one_lies stripe id is h own)
   where

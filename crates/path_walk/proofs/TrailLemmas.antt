@@ -57,7 +57,7 @@ some_grows old new stripe grows h = by_part (old stripe) refl h
 pub looked_grows : (held : Held) (old new : Shown) (ids : List NodeId) → Grows old new → AreLookedAt held old ids → AreLookedAt held new ids
 looked_grows held old new ids grows looked id h = let was = looked id h in (was.0, some_grows old new (id % 64) grows was.1)
 
-one_of_append : (id : ℕ) (xs ys : List ℕ) → is_one_of id (xs ++ ys) ≡ (is_one_of id xs || is_one_of id ys)
+pub one_of_append : (id : ℕ) (xs ys : List ℕ) → is_one_of id (xs ++ ys) ≡ (is_one_of id xs || is_one_of id ys)
 one_of_append id [] ys = refl
 one_of_append id (x ∷ xs) ys = ap (λ b. (x == id) || b) (one_of_append id xs ys) ∙ or_assoc (x == id) (is_one_of id xs) (is_one_of id ys)
   where
@@ -65,7 +65,7 @@ one_of_append id (x ∷ xs) ys = ap (λ b. (x == id) || b) (one_of_append id xs 
     or_assoc true b c = refl
     or_assoc false b c = refl
 
-numbers-append : (xs ys : List NodeId) → numbers_of (xs ++ ys) ≡ numbers_of xs ++ numbers_of ys
+pub numbers-append : (xs ys : List NodeId) → numbers_of (xs ++ ys) ≡ numbers_of xs ++ numbers_of ys
 numbers-append [] ys = refl
 numbers-append (x ∷ xs) ys = ap (λ l. x.0 ∷ l) (numbers-append xs ys)
 

@@ -3,3 +3,4 @@ pub mod Visits
 pub mod Trails
 pub mod Answers
 pub mod Finds
+pub mod Holds

@@ -56,7 +56,7 @@ pub fn look_up<V: View>(
     let names = parts.as_slice();
     match visit(alloc, view, path, caller) {
         Ok(Visit { ids, node, end, .. }) => match end {
-            End::Reached => look(view, ids.into_items(), &node, &names[names.len() - 1]),
+            End::Reached => look_below(view, ids.into_items(), &node, &names[names.len() - 1]),
             end => Ok(stopped(ids, end)),
         },
         Err(stop) => Err(stop),
@@ -74,8 +74,9 @@ fn stopped(ids: NodeIds, end: End) -> Find
     }
 }
 
-// A look at the child of a name of a directory.
-fn look<V: View>(
+/// Looks at the child of a name of a directory that was looked at, behind these nodes that were read. The child is looked at, for which
+/// its stripe has to be held at least shared: where it isn't, the answer is `Need`. Want of memory may come at any time.
+pub fn look_below<V: View>(
     view: &mut V,
     mut ids: Vec<NodeId>,
     node: &NodeRef,

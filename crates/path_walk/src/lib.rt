@@ -6,25 +6,28 @@
 //! and each of them lies in a stripe that is held. Where a node of the way lies in a stripe that isn't held, it names that stripe. `walk`
 //! answers the same as a path's ids or as the reason for which its parent isn't reached.
 //!
-//! `look_up` goes on to the node of the path itself.
+//! `look_up` goes on to the node of the path itself, and `look_below` from a directory that was looked at to the node of one of its
+//! names. `unheld` names a stripe of the nodes that are to be written, where one isn't held for that.
 //!
 //! `refusal`, `denial`, `stop_reply` and `closing` make the replies that all operations share, and `answered` the draft of an answer that
 //! changes nothing.
 //!
 //! The definitions stand in `specs/Ways.antt`, and what a visit is of them in `specs/Visits.antt`; what stands at a path in
-//! `specs/Finds.antt`; answers in `specs/Answers.antt`. That the model's walk is the way with what comes of it is the law
+//! `specs/Finds.antt`; answers in `specs/Answers.antt`; holds in `specs/Holds.antt`. That the model's walk is the way with what comes of it is the law
 //! `the_walk_is_the_way`.
 #![tactic(auto)]
 
 mod answer;
 mod find;
+mod hold;
 mod laws;
 mod look;
 mod stop;
 mod way;
 
 pub use answer::{answered, closing, denial, refusal, stop_reply};
-pub use find::{Find, Found, look_up};
+pub use find::{Find, Found, look_below, look_up};
+pub use hold::unheld;
 pub use laws::the_walk_is_the_way;
 pub use look::{child_of, is_directory, may_enter};
 pub use stop::{End, Visit, Walk, WalkStop};

@@ -84,8 +84,8 @@ fn bare_pair(alloc: Global) -> Result<AclPair, AllocError>
     }
 }
 
-// An access list of the three base entries of a mode, and no default list.
-fn base_pair(alloc: Global, mode: &ModeBits) -> Result<AclPair, AllocError>
+/// An access list of the three base entries of a mode, and no default list. The one error is want of memory.
+pub fn base_pair(alloc: Global, mode: &ModeBits) -> Result<AclPair, AllocError>
     ensures { IfOk result (λ pair. pair ≡ record { access = (Who.Owner, mode.now.owner) ∷ (Who.OwningGroup, mode.now.group) ∷ (Who.Other, mode.now.other) ∷ []; default = None }) }
 {
     with_mode(alloc, &bare_pair(alloc)?, mode)

@@ -168,5 +168,8 @@ fn umasks(rt: HostRuntime) -> Result<(), Fail> {
         assert_eq!(rt; made.as_slice(), text.as_bytes(), "{text}");
         assert_eq!(rt; bit, sticky, "{text}");
     }
+    let mode = read_permissions("0741".as_bytes())?;
+    let made = text_of(rt.alloc(), &base_pair(rt.alloc(), &mode)?)?;
+    assert_eq!(rt; made.as_slice(), b"user::rwx,group::r--,other::--x".as_slice());
     Ok(())
 }

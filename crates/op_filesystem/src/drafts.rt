@@ -6,8 +6,7 @@ ghost use Rattle.namespace_model.specs.Replies.{refusal, denial, success, stamp_
 ghost use Rattle.op_filesystem.specs.Filesystems.{account_id, IsMade};
 ghost use Rattle.path_walk.specs.Answers.{IsAnswered};
 
-use super::root::root_inode;
-use acl_text::Perm;
+use super::root::{bits, root_inode};
 use file_data::Piece;
 use head_text::Props;
 use inode_tree::{Change, Draft, NodeId};
@@ -23,19 +22,10 @@ pub(crate) fn superuser_only(alloc: Global, path: &Path, close: bool) -> Result<
     let denied = Denied {
         rule: Rule::SuperuserOnly,
         at: path.copy(alloc)?,
-        want: no_bits(),
-        have: no_bits(),
+        want: bits(0),
+        have: bits(0),
     };
     answered(alloc, Vec::new(alloc), denial(alloc, denied), close)
-}
-
-fn no_bits() -> Perm
-    ensures { result ≡ 0 }
-{
-    match Perm::new(0) {
-        Some(bits) => bits,
-        None => unreachable!(),
-    }
 }
 
 // The name leads to a filesystem already: the account is read.

@@ -1,9 +1,10 @@
 //! The root of a new filesystem, and its name.
-ghost use Rattle.std.specs.Prelude.{◌≡◌, false, [], ◌∷◌, length, IfOk, unwrap_or};
+ghost use Rattle.std.specs.Prelude.{◌≡◌, ◌<◌, [], ◌∷◌, length, IfOk, unwrap_or};
 ghost use Rattle.namespace_model.specs.CreateFilesystem.{root_access};
 ghost use Rattle.op_filesystem.specs.Filesystems.{root_inode};
 
-use acl_text::{AclList, AclPair, AclStop, Id, Who, read_acl, set};
+use acl_check::base_pair;
+use acl_text::{AclPair, Id, ModeBits, Perm};
 use head_text::Props;
 use inode_tree::{Children, Content, Inode, Meta};
 use lease_state::Lease;
@@ -22,25 +23,27 @@ pub(crate) fn root_name(alloc: Global, path: &Path) -> Result<Name, AllocError>
     }
 }
 
-// The three base entries of `rwxr-x---`.
-fn root_list(alloc: Global) -> Result<AclList, AllocError>
-    ensures { IfOk result (λ list. list ≡ (false, Who.Owner, 7) ∷ (false, Who.OwningGroup, 5) ∷ (false, Who.Other, 0) ∷ []) }
-{
-    match read_acl(alloc, b"user::rwx,group::r-x,other::---".as_slice()) {
-        Ok(list) => Ok(list),
-        Err(AclStop::NoMemory) => Err(AllocError),
-        Err(AclStop::Fault(_)) => unreachable!(),
-    }
-}
-
 // The access list of `rwxr-x---`, and no default list.
 fn root_access(alloc: Global) -> Result<AclPair, AllocError>
     ensures { IfOk result (λ pair. pair ≡ root_access) }
 {
-    match set(alloc, &root_list(alloc)?) {
-        Ok(pair) => Ok(pair),
-        Err(AclStop::NoMemory) => Err(AllocError),
-        Err(AclStop::Fault(_)) => unreachable!(),
+    let mode = ModeBits {
+        sticky: false,
+        owner: bits(7),
+        group: bits(5),
+        other: bits(0),
+    };
+    base_pair(alloc, &mode)
+}
+
+// Permissions below 8.
+pub(crate) fn bits(count: u8) -> Perm
+    requires { count < 8 }
+    ensures { result ≡ count }
+{
+    match Perm::new(count) {
+        Some(bits) => bits,
+        None => unreachable!(),
     }
 }
 

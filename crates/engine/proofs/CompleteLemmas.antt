@@ -1,8 +1,8 @@
--- Completeness: bytes that are complete requests and nothing else are all answered.
-use Rattle.std.proofs.Common.{◌≡◌, ◌≢◌, ℕ, ◌<◌, ◌⊎◌, inl, inr, List, [], ◌∷◌, ◌++◌, length, map, drop, Option, Some, None, refl, sym, ap, ◌∙◌, append_assoc, append-nil, length-append, arith}
-use Rattle.std.specs.Prelude.{All}
+-- Completeness: bytes that are complete requests and nothing else are all answered, up to the first request that closes.
+use Rattle.std.proofs.Common.{◌≡◌, ◌≢◌, ℕ, ◌<◌, Bool, true, false, ◌⊎◌, inl, inr, List, [], ◌∷◌, ◌++◌, length, map, drop, Option, Some, None, refl, sym, ap, ◌∙◌, append_assoc, append-nil, length-append, arith}
+use Rattle.std.specs.Prelude.{All, if◌then◌else◌}
 use Rattle.std.specs.List.{flat_map}
-use Rattle.std.proofs.lemmas.List.{length-map}
+use Rattle.std.proofs.lemmas.List.{length-map, map-append}
 use Rattle.std.proofs.lemmas.List.Elements.{All-head, All-tail}
 use Rattle.std.proofs.Math.Seq.{drop-append_seam}
 use Rattle.conn_io.specs.Causes.{Rose}
@@ -10,11 +10,12 @@ use Rattle.http_front.specs.declared.answers.BadHttp.TheVariants.{NotBuilt}
 use Rattle.http_front.specs.Requests.{RequestText, print_text, IsComplete}
 use Rattle.http_front.proofs.TextLemmas.{Begins_unique, print_text_some}
 use Rattle.http_front.proofs.FaultLemmas.{faultless}
+use Rattle.namespace_model.specs.declared.request.Request.{Request}
 use Rattle.namespace_model.specs.declared.request.Entry.{Entry}
 use Rattle.engine.specs.declared.end.End.{End}
 use Rattle.engine.specs.declared.end.End.TheVariants as end
 use Rattle.engine.proofs.ServeLemmas.{length-texts_past}
-use Rattle.engine.specs.Served.{Served, TakesRequests, ReadCounts, WriteCounts, AnswersAll, Completes, request_of, request_in}
+use Rattle.engine.specs.Served.{Served, EndsDone, ClosesLast, is_closed, ReadCounts, WriteCounts, AnswersAll, Completes, request_of, request_in, up_to_close, asked_in}
 
 -- requests that are the front of requests, and what is left of these
 record IsFront (ts us : List RequestText) (rest : List ℕ) : Type 0 where
@@ -48,9 +49,26 @@ known_end rest left none = ap (λ (l : List ℕ). rest ++ l) none ∙ append-nil
 behind : (old new entries : List Entry) → new ≡ old ++ entries → drop (length old) new ≡ entries
 behind old new entries history = ap (drop (length old)) history ∙ drop-append_seam old entries
 
--- as many entries as requests
-counted : (taken rest : List ℕ) (entries : List Entry) (takes : TakesRequests taken entries rest) → length entries ≡ length takes.texts
-counted taken rest entries takes = sym (length-map entries request_of) ∙ ap length takes.decodes ∙ length-map takes.texts request_in
+-- what follows a request that does not close, and one that does
+goes_on : (r : Request) (rs : List Request) → r.close ≡ false → up_to_close (r ∷ rs) ≡ r ∷ up_to_close rs
+goes_on r rs stays = ap (λ (b : Bool). r ∷ (if b then [] else up_to_close rs)) stays
+
+stops : (r : Request) (rs : List Request) → r.close ≡ true → up_to_close (r ∷ rs) ≡ r ∷ []
+stops r rs shut = ap (λ (b : Bool). r ∷ (if b then [] else up_to_close rs)) shut
+
+-- the first request that closes is the last of entries of which only the last closes
+closes_there : (es : List Entry) (more : List Request) → ClosesLast es → is_closed es ≡ true → up_to_close (map request_of es ++ more) ≡ map request_of es
+closes_there [] more last is = absurd (cc)
+closes_there (e ∷ []) more last is = stops e.request more is
+closes_there (e ∷ f ∷ es) more last is =
+    goes_on e.request (map request_of (f ∷ es) ++ more) last.0 ∙ ap (λ (l : List Request). e.request ∷ l) (closes_there (f ∷ es) more last.1 is)
+
+-- where none of the entries closes, the first request that does is behind them
+closes_behind : (es : List Entry) (more : List Request) → ClosesLast es → is_closed es ≡ false → up_to_close (map request_of es ++ more) ≡ map request_of es ++ up_to_close more
+closes_behind [] more last is = refl
+closes_behind (e ∷ []) more last is = goes_on e.request more is
+closes_behind (e ∷ f ∷ es) more last is =
+    goes_on e.request (map request_of (f ∷ es) ++ more) last.0 ∙ ap (λ (l : List Request). e.request ∷ l) (closes_behind (f ∷ es) more last.1 is)
 
 module _ (most : ℕ) (out out' : Option (List ℕ)) (ahead : Option (ℕ → ℕ)) (old new : List Entry) (answered : ℕ) (texts : List RequestText) (left' : List ℕ) where
   -- the requests that were taken are the front of all
@@ -61,23 +79,53 @@ module _ (most : ℕ) (out out' : Option (List ℕ)) (ahead : Option (ℕ → �
       front takes.texts texts (served.rest ++ left') takes.each each
       (sym (append_assoc (flat_map print_text takes.texts) served.rest left') ∙ ap (λ (l : List ℕ). l ++ left') (sym takes.whole) ∙ sym served.consumes)
 
-  told : (read read' written written' : ℕ) (e : End) → Served most (Some (flat_map print_text texts)) (Some left') out out' ahead old new answered e
-      → All IsComplete texts → length texts < most → ReadCounts read read' e → WriteCounts written written' e → ¬ Rose read read' → ¬ Rose written written'
-      → (e ≡ end.NoMemory) ⊎ AnswersAll texts old new e
-  told read read' written written' end.Done served each few reads writes no_read no_write =
+  -- what was asked begins with the requests of the entries
+  asked : (e : End) (served : Served most (Some (flat_map print_text texts)) (Some left') out out' ahead old new answered e) (each : All IsComplete texts)
+      → asked_in texts ≡ up_to_close (map request_of served.entries ++ map request_in (taken_front e served each).more)
+  asked e served each =
+      let fr = taken_front e served each in
+      ap asked_in fr.whole
+      ∙ ap up_to_close (map-append request_in served.requests.texts fr.more ∙ ap (λ (l : List Request). l ++ map request_in fr.more) (sym served.requests.decodes))
+
+  -- the last entry closes: it is the first request that does
+  told_closed : (served : Served most (Some (flat_map print_text texts)) (Some left') out out' ahead old new answered end.Done) → All IsComplete texts
+      → is_closed served.entries ≡ true → AnswersAll texts old new end.Done
+  told_closed served each shut = record {
+    done = refl;
+    requests =
+        ap (map request_of) (behind old new served.entries served.history)
+        ∙ sym (asked end.Done served each ∙ closes_there served.entries (map request_in (taken_front end.Done served each).more) served.closing shut);
+  }
+
+  -- none closes, and nothing more came
+  told_all : (served : Served most (Some (flat_map print_text texts)) (Some left') out out' ahead old new answered end.Done) → All IsComplete texts
+      → is_closed served.entries ≡ false → served.rest ≡ [] → left' ≡ [] → AnswersAll texts old new end.Done
+  told_all served each stays none at_end =
       let fr = taken_front end.Done served each in
-      let nothing : [] ≡ flat_map print_text fr.more = sym (known_end served.rest left' served.ends.at_end ∙ served.ends.none) ∙ fr.rest_is in
-      let all : texts ≡ served.requests.texts =
-      fr.whole ∙ ap (λ (l : List RequestText). served.requests.texts ++ l) (none_left fr.more fr.each nothing) ∙ append-nil served.requests.texts in
-      inr (record {
+      let nothing : [] ≡ flat_map print_text fr.more = sym (known_end served.rest left' at_end ∙ none) ∙ fr.rest_is in
+      let no_more : map request_in fr.more ≡ [] = ap (map request_in) (none_left fr.more fr.each nothing) in
+      record {
         done = refl;
-        requests = ap (map request_of) (behind old new served.entries served.history) ∙ served.requests.decodes ∙ ap (map request_in) (sym all);
-      })
+        requests =
+            ap (map request_of) (behind old new served.entries served.history)
+            ∙ sym (asked end.Done served each ∙ closes_behind served.entries (map request_in fr.more) served.closing stays
+            ∙ ap (λ (l : List Request). map request_of served.entries ++ up_to_close l) no_more ∙ append-nil (map request_of served.entries));
+      }
+
+  told : (read read' written written' : ℕ) (e : End) → Served most (Some (flat_map print_text texts)) (Some left') out out' ahead old new answered e
+      → All IsComplete texts → length (asked_in texts) < most → ReadCounts read read' e → WriteCounts written written' e → ¬ Rose read read' → ¬ Rose written written'
+      → (e ≡ end.NoMemory) ⊎ AnswersAll texts old new e
+  told read read' written written' end.Done served each few reads writes no_read no_write = inr (by served.ends)
+    where
+      by : (is_closed served.entries ≡ true) ⊎ EndsDone (is_closed served.entries) answered most served.rest (Some left') → AnswersAll texts old new end.Done
+      by (inl shut) = told_closed served each shut
+      by (inr ends) = told_all served each ends.goes_on.is_open ends.none ends.at_end
   told read read' written written' end.Spent served each few reads writes no_read no_write =
       let fr = taken_front end.Spent served each in
-      let entries = counted served.taken served.rest served.entries served.requests in
+      let further = map request_in fr.more in
+      let asked_are = asked end.Spent served each ∙ closes_behind served.entries further served.closing served.ends.is_open in
       let replies = length-texts_past old new served.entries served.history in
-      absurd (omega (arith, served.ends, served.text.all, replies, entries, ap length fr.whole, length-append served.requests.texts fr.more))
+      absurd (omega (arith, few, served.ends.all, served.text.all, replies, ap length asked_are, length-append (map request_of served.entries) (up_to_close further), length-map served.entries request_of))
   told read read' written written' (end.CutShort cut) served each few reads writes no_read no_write =
       let fr = taken_front (end.CutShort cut) served each in
       let some : served.rest ≢ [] = λ none. omega (arith, served.ends.some, served.ends.cut_is, ap length none) in
@@ -99,6 +147,6 @@ completes most left left' out out' ahead read read' written written' old new ans
     by_left texts left' (rw tells at served) each few no_read no_write
   where
     by_left : (texts : List RequestText) (l : Option (List ℕ)) → Served most (Some (flat_map print_text texts)) l out out' ahead old new answered e
-        → All IsComplete texts → length texts < most → ¬ Rose read read' → ¬ Rose written written' → (e ≡ end.NoMemory) ⊎ AnswersAll texts old new e
+        → All IsComplete texts → length (asked_in texts) < most → ¬ Rose read read' → ¬ Rose written written' → (e ≡ end.NoMemory) ⊎ AnswersAll texts old new e
     by_left texts None s each few no_read no_write = absurd s.consumes
     by_left texts (Some l) s each few no_read no_write = told most out out' ahead old new answered texts l read read' written written' e s each few reads writes no_read no_write

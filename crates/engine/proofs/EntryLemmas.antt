@@ -1,5 +1,5 @@
 -- One entry more at the end.
-use Rattle.std.proofs.Common.{◌≡◌, ℕ, suc, ◌+◌, ◌≤◌, List, [], ◌∷◌, ◌++◌, length, map, drop, Option, Some, None, sym, ap, ◌∙◌, append_assoc, append-nil, length-append, arith, rules}
+use Rattle.std.proofs.Common.{◌≡◌, ℕ, false, refl, suc, ◌+◌, ◌≤◌, List, [], ◌∷◌, ◌++◌, length, map, drop, Option, Some, None, sym, ap, ◌∙◌, append_assoc, append-nil, length-append, arith, rules}
 use Rattle.std.specs.Prelude.{All}
 use Rattle.std.specs.List.{flat_map}
 use Rattle.std.proofs.lemmas.List.{map-append}
@@ -10,8 +10,8 @@ use Rattle.std.proofs.lemmas.Grind.{flat_map-append}
 use Rattle.conn_io.specs.Moments.{Ticks, HasTicked, IsForetold}
 use Rattle.http_front.specs.Requests.{RequestText, print_text, IsComplete, raw_of}
 use Rattle.namespace_model.specs.declared.request.Entry.{Entry}
-use Rattle.engine.specs.Decoded.{decoded}
-use Rattle.engine.specs.Served.{TakesRequests, IsPlaced, ArePlaced, ClosesLast, request_in, request_of}
+use Rattle.op_decode.specs.Decoded.{decoded}
+use Rattle.engine.specs.Served.{TakesRequests, IsPlaced, ArePlaced, ClosesLast, is_closed, request_in, request_of}
 use Rattle.engine.specs.Submits.{texts_of, texts_past}
 use Rattle.engine.proofs.Texts.{length-texts_of}
 use Rattle.engine.proofs.ServingInvariant.{StaysOpen}
@@ -83,3 +83,23 @@ closes-last (e ∷ []) are = tt
 closes-last (e ∷ f ∷ es) are =
     let rest = All-tail StaysOpen e (f ∷ es) are in
     (All-head StaysOpen e (f ∷ es) are, closes-last (f ∷ es) rest)
+
+-- nor does the last
+pub none-closed : (es : List Entry) → All StaysOpen es → is_closed es ≡ false
+none-closed [] are = refl
+none-closed (e ∷ []) are = All-head StaysOpen e [] are
+none-closed (e ∷ f ∷ es) are = none-closed (f ∷ es) (All-tail StaysOpen e (f ∷ es) are)
+
+-- behind entries of which none closes one more may close
+pub closes-last-push : (es : List Entry) (e : Entry) → All StaysOpen es → ClosesLast (es ++ e ∷ [])
+closes-last-push [] e are = tt
+closes-last-push (x ∷ []) e are = (All-head StaysOpen x [] are, tt)
+closes-last-push (x ∷ y ∷ es) e are =
+    let rest = All-tail StaysOpen x (y ∷ es) are in
+    (All-head StaysOpen x (y ∷ es) are, closes-last-push (y ∷ es) e rest)
+
+-- and it says whether the last closes
+pub closed-push : (es : List Entry) (e : Entry) → is_closed (es ++ e ∷ []) ≡ e.request.close
+closed-push [] e = refl
+closed-push (x ∷ []) e = refl
+closed-push (x ∷ y ∷ es) e = closed-push (y ∷ es) e

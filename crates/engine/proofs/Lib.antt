@@ -1,11 +1,11 @@
-pub mod StandsLemmas
-pub mod IfOkLemmas
-pub mod DraftLemmas
-pub mod RootLemmas
 pub mod Texts
-pub mod SubmitLemmas
+pub mod EvalLemmas
+pub mod FineSteps
+pub mod OpeningLemmas
+pub mod StripeLemmas
+pub mod ReceiptLemmas
+pub mod SoloLemmas
 pub mod WrittenLemmas
-pub mod DecodedLemmas
 pub mod RoomLemmas
 pub mod ServingInvariant
 pub mod EntryLemmas

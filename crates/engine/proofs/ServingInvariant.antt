@@ -1,4 +1,4 @@
--- The invariant of serving: every request so far is answered, and its reply is out.
+-- The invariant of serving: every request so far is answered, its reply is out, and none closed the connection.
 use Rattle.std.proofs.Common.{◌≡◌, ℕ, false, List, ◌++◌, length, Option}
 use Rattle.std.specs.Prelude.{All}
 use Rattle.std.specs.List.{concat}

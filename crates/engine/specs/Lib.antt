@@ -1,7 +1,6 @@
-pub mod Built
-pub mod Decoded
-pub mod Stands
-pub mod Drafts
+pub mod Solos
+pub mod Stripes
+pub mod Opening
 pub mod Submits
 pub mod Answered
 pub mod Written

@@ -1,10 +1,13 @@
 -- One submit, and the texts of a journal.
-use Rattle.std.specs.Prelude.{◌≡◌, ℕ, suc, ◌+◌, List, [], ◌∷◌, ◌++◌, length, drop, slice_get, Some}
+use Rattle.std.specs.Prelude.{◌≡◌, ℕ, suc, ◌+◌, true, false, List, [], ◌∷◌, ◌++◌, length, drop, slice_get, Some}
 use Rattle.namespace_model.specs.declared.request.Entry.{Entry}
 use Rattle.namespace_model.specs.declared.reply.Reply.{Reply}
-use Rattle.namespace_model.specs.Step.{step, tree_of, replies_of}
+use Rattle.namespace_model.specs.Step.{step, tree_of, new_paths, replies_of}
 use Rattle.engine.specs.declared.solo.Answer.{Answer}
-use Rattle.commit_journal.specs.Journal.{JournalView}
+use Rattle.engine.specs.Solos.{SoloView, parts_in, placed_behind}
+use Rattle.inode_tree.specs.After.{after}
+use Rattle.inode_tree.specs.Footprints.{reads, writes}
+use Rattle.striped_store.specs.Receipts.{AreBits}
 use Rattle.reply_text.specs.ReplyText.{reply_text}
 
 -- the texts of replies to entries with numbers from this one on
@@ -32,18 +35,25 @@ pub record SpellsTheRun (journal : List Entry) : Type 0 where
 abbrev pub texts_past : List Entry → List Entry → List (List ℕ)
 texts_past old new = drop (length old) (texts_of new)
 
--- The entry is the journal's last; the answer has the text of its reply in the run of the journal, and its number.
-pub record Submits (old new : JournalView Entry) (entry : Entry) (answer : Answer) : Type 0 where
+-- The entry is the journal's last. The answer has the text of its reply in the run of the journal, and its number. The parts are those that the
+-- entry makes of the ones before, its new nodes have the next ids, and the receipt has the stripes of what it wrote, and of what it read alone.
+pub record Submits (old new : SoloView) (entry : Entry) (answer : Answer) : Type 0 where
   pub journal : new.entries ≡ old.entries ++ entry ∷ []
   pub text : texts_of new.entries ≡ texts_of old.entries ++ answer.bytes.items ∷ []
+  pub parts : parts_in new ≡ after (parts_in old) (placed_behind old entry) (length new.entries)
+  pub ids : new.used ≡ old.used + length (new_paths (tree_of old.entries) entry)
   pub number : answer.receipt.number ≡ length new.entries
+  pub written : AreBits answer.receipt.exclusive (λ k. writes (parts_in old) (placed_behind old entry) k ≡ true)
+  pub read : AreBits answer.receipt.shared (λ k. (writes (parts_in old) (placed_behind old entry) k ≡ false) × (reads (parts_in old) (placed_behind old entry) k ≡ true))
   pub rounds : answer.receipt.rounds ≡ 1
 
 -- the bytes of an entry's body
 abbrev pub body_of : Entry → ℕ
 body_of e = length e.request.body
 
--- a journal with the same entries and limits
-pub record IsUnchanged (old new : JournalView Entry) : Type 0 where
+-- the journal has the same entries and limits, the parts are the same, and as many ids are used
+pub record IsUnchanged (old new : SoloView) : Type 0 where
   pub entries : new.entries ≡ old.entries
   pub limits : new.limits ≡ old.limits
+  pub parts : parts_in new ≡ parts_in old
+  pub used : new.used ≡ old.used

@@ -3,9 +3,9 @@ use http_front::BadHttp;
 /// How the serving of a connection ended.
 #[derive(Clone, Copy, Debug, PartialEq, Eq)]
 pub enum End {
-    /// The source was at its end between two requests.
+    /// The source was at its end between two requests, or the last request asked for the connection to be closed.
     Done,
-    /// As many requests were answered as a connection may send.
+    /// As many requests were answered as a connection may send, and the last did not ask for it to be closed.
     Spent,
     /// The source was at its end within a request, so many bytes behind the last whole one.
     CutShort(u64),

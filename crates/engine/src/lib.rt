@@ -1,29 +1,28 @@
-//! The engine: requests out of raw ones, the namespace in memory, the text of replies, and the server of one
-//! connection.
+//! The engine: the evaluators of all operations, the namespace in memory, the text of replies, and the server of one connection.
 //!
-//! `Solo` keeps a journal and what the run of it left, and answers each request with the text of the reply that the run gives at its
-//! place. `serve_solo` reads requests from a source and writes their replies to a sink; its contract is the serving theorem.
+//! `eval` calls the evaluator of an operation. `Solo` keeps a journal and the 64 stripes that the run of it left, and answers each
+//! request with the text of the reply that the run gives at its place. A caller may rely on this: the parts of the stripes stand for the
+//! tree of that run, new nodes get the ids of pass 0 in their order, and a receipt has the stripes of what its entry read and wrote.
+//! `serve_solo` reads requests from a source and writes their replies to a sink; its contract is the serving theorem.
 //!
-//! So far filesystems are made, by the superuser and without properties; every other request is answered that it is not built, which
-//! decoding sees to, and `submit` requires it (`IsBuilt` of specs/Built).
-//!
-//! Definitions: specs/Decoded.antt (the request of a raw one), specs/Stands.antt (what the
-//! memory of `Solo` stands for), specs/Drafts.antt (what is worked out for a request), specs/Submits.antt (one submit),
-//! specs/Served.antt (one connection). The bytes of replies are those of reply_text, the journal and its limits those of commit_journal.
+//! Definitions: specs/Solos.antt (what a contract sees of `Solo`, and what it keeps), specs/Submits.antt (one submit),
+//! specs/Served.antt (one connection). The bytes of replies are those of `reply_text`, requests those of `op_decode`, the journal and
+//! its limits those of `commit_journal`, and what every evaluator promises stands in `inode_tree`.
 #![tactic(auto)]
 
-mod decoding;
-mod draft;
 mod end;
-mod filesystems;
+mod evaluation;
 mod laws;
+mod opening;
+mod receipt;
 mod serving;
 mod solo;
 mod spelling;
+mod stripes;
 mod writing;
 
-pub use decoding::decode;
 pub use end::End;
+pub use evaluation::eval;
 pub use laws::replies_are_those_of_the_run;
 pub use serving::serve_solo;
 pub use solo::{Answer, Solo, SubmitRefusal};

@@ -4,21 +4,23 @@ ghost use Rattle.engine.specs.Refuses.{Refuses};
 ghost use Rattle.engine.specs.Served.{Served, ReadCounts, WriteCounts, Completes};
 ghost use Rattle.engine.specs.Submits.{IsUnchanged};
 
-use super::decoding::decode;
 use super::end::End;
 use super::solo::{Solo, SubmitRefusal};
 use super::spelling::spell_last;
 use super::writing::write_all;
 use conn_io::{Clock, Sink, Source};
 use http_front::{BadHttp, FrontFault, Next, Raw, Reader};
+use op_decode::decode;
 use std::alloc::{AllocError, Global};
 
 /// Serves one connection: takes requests from the source, one after the other, puts each into the journal and writes its reply to the
-/// sink, up to `requests_max` of the limits. It answers how many replies were written whole, and how the serving ended.
+/// sink, up to `requests_max` of the limits or to the first request that asks for the connection to be closed. It answers how many
+/// replies were written whole, and how the serving ended.
 ///
-/// `CutShort` comes where the source is at its end within a request, `BadRequest` where the bytes are no request that is taken, with
-/// a last reply; `ReadFault` and `WriteFault` where the source or the sink failed, after which nothing more is read or written;
-/// `NoMemory` for want of memory. The journal needs room for as many entries as there may be requests.
+/// `Done` comes where the source is at its end between two requests, and behind the reply to a request that closes; `CutShort` where the
+/// source is at its end within a request, `BadRequest` where the bytes are no request that is taken, with a last reply; `ReadFault` and
+/// `WriteFault` where the source or the sink failed, after which nothing more is written; `NoMemory` for want of memory. The
+/// journal needs room for as many entries as there may be requests.
 pub fn serve_solo<S: Source, K: Sink, C: Clock>(
     alloc: Global,
     solo: &mut Solo,
@@ -43,36 +45,51 @@ pub fn serve_solo<S: Source, K: Sink, C: Clock>(
             Ok(Next::Ended) => return (index, End::Done),
             Err(fault) => return (index, refuse(alloc, sink, fault)),
         };
-        let text = match answer(alloc, solo, clock, index as u32, &raw) {
-            Ok(text) => text,
+        let response = match answer(alloc, solo, clock, index as u32, &raw) {
+            Ok(response) => response,
             Err(_) => return (index, End::NoMemory),
         };
-        match write_all(sink, text.as_slice()) {
+        match write_all(sink, response.text.as_slice()) {
             Ok(()) => {}
             Err(_) => return (index, End::WriteFault),
+        }
+        if response.closes {
+            return (index + 1, End::Done);
         }
     }
     (most, End::Spent)
 }
 
-// Answers one raw request: its entry, with the clock's next moment, and the text of its reply. The one error is want of memory.
+// The text of a reply, and whether the connection ends behind it.
+#[derive(Drop)]
+struct Response {
+    text: Vec<u8>,
+    closes: bool,
+}
+
+// Answers one raw request: its entry, with the clock's next moment, and its response. The one error is want of memory.
 fn answer<C: Clock>(
     alloc: Global,
     solo: &mut Solo,
     clock: &mut C,
     index: u32,
     raw: &Raw,
-) -> Result<Vec<u8>, AllocError>
+) -> Result<Response, AllocError>
     requires room { length solo.old.entries < solo.old.limits.journal_max }
     requires no_body { raw.now.body ≡ [] }
-    ensures answered { IfOk result (λ text. Answered solo.old solo.new (C.ahead clock.old) (C.ahead clock.new) index raw.now text.items) }
+    ensures answered { IfOk result (λ response. Answered solo.old.entries solo.new.entries (C.ahead clock.old) (C.ahead clock.new) index raw.now
+        response.text.items response.closes) }
     ensures refused { OnErr result (IsUnchanged solo.old solo.new) }
     ensures limits { solo.new.limits ≡ solo.old.limits }
 {
     let request = decode(alloc, raw)?;
+    let closes = request.close;
     let moment = clock.now();
     match solo.submit(alloc, 0, index, request, moment) {
-        Ok(answer) => Ok(answer.bytes),
+        Ok(answer) => Ok(Response {
+            text: answer.bytes,
+            closes,
+        }),
         Err(SubmitRefusal::Full(_)) => unreachable!(),
         Err(SubmitRefusal::NoMemory) => Err(AllocError),
     }

@@ -1,16 +1,17 @@
-use super::draft::Draft;
-use super::filesystems::draft_of;
+use super::evaluation::eval;
+use super::receipt::receipt_of;
 use super::spelling::spell;
+use super::stripes::Stripes;
 use commit_journal::{Full, Journal, Limits, ReserveStop};
+use inode_tree::{EvalStop, Fresh};
 use namespace_model::{Entry, Request};
-use path_text::FsName;
 use std::alloc::{AllocError, Global};
 use std::marker::Model;
 use striped_store::Receipt;
 use thiserror::Error;
 
-/// The text of a reply, and the receipt of its entry. The sequential engine holds no stripes yet: its receipts have none, and one
-/// round.
+/// The text of a reply, and the receipt of its entry: its number, the stripes of the nodes that it wrote and of those that it read
+/// alone, and one round.
 #[derive(Debug, Drop)]
 pub struct Answer {
     pub bytes: Vec<u8>,
@@ -26,48 +27,57 @@ pub enum SubmitRefusal {
     NoMemory,
 }
 
-/// The sequential engine: the namespace in memory, and the journal of all that was asked of it. A contract sees the journal.
+/// The sequential engine: the namespace in memory, and the journal of all that was asked of it. A contract sees the journal, the 64
+/// stripes, whose parts stand for the tree that the run of the journal leaves, and how many nodes were made so far.
 #[derive(Drop)]
 pub struct Solo {
     journal: Journal<Entry>,
-    filesystems: Vec<FsName>,
+    stripes: Stripes,
+    used: u64,
 }
 
 impl Model for Solo {
-    ghost use Rattle.commit_journal.specs.Journal.{JournalView};
-    ghost use Rattle.namespace_model.specs.declared.request.Entry.{Entry};
-    ghost use Rattle.engine.specs.Stands.{Stands};
-    ghost use Rattle.namespace_model.specs.Step.{tree_of};
+    ghost use Rattle.std.specs.Coded.{codes};
+    ghost use Rattle.engine.specs.Solos.{SoloView, IsKept, solo_code};
 
-    ghost Value = { JournalView Entry };
+    ghost Value = { SoloView };
 
-    ghost view = { λ s. s.journal };
+    ghost coded = { solo_code (Prim.hlevel codes) (Prim.hlevel codes) (Prim.hlevel codes) };
 
-    ghost invariant = { λ s. Stands s.filesystems.items (tree_of s.journal.entries) };
+    ghost view = { λ s. record { entries = s.journal.entries; limits = s.journal.limits; spare = s.journal.spare; stripes = s.stripes; used = s.used } };
+
+    ghost invariant = { λ s. IsKept (record { entries = s.journal.entries; limits = s.journal.limits; spare = s.journal.spare; stripes = s.stripes; used = s.used }) };
 }
 
 impl Solo {
     ghost use Rattle.std.specs.Prelude.{◌≡◌, ◌≤◌, ◌↔◌, [], length, IfOk, OnErr, IsErrOf};
     ghost use Rattle.conn_io.specs.declared.outside.TheConstants.{LAST_MOMENT};
-    ghost use Rattle.engine.specs.Built.{IsBuilt};
-    ghost use Rattle.namespace_model.specs.Sound.{IsSound};
     ghost use Rattle.commit_journal.specs.Journal.{IsFull, IsFullFor, IsWithin};
+    ghost use Rattle.inode_tree.specs.Stands.{Stands};
+    ghost use Rattle.namespace_model.specs.Built.{IsBuilt};
+    ghost use Rattle.namespace_model.specs.Sound.{IsSound};
+    ghost use Rattle.namespace_model.specs.Step.{tree_of};
+    ghost use Rattle.engine.specs.Solos.{journal_in, made_by, parts_in};
     ghost use Rattle.engine.specs.Submits.{Submits, IsUnchanged, body_of};
 
     /// An engine with an empty journal and the account alone. The one error is want of memory.
     pub fn start(alloc: Global, limits: &Limits) -> Result<Solo, AllocError>
         ensures entries { IfOk result (λ solo. solo.entries ≡ []) }
         ensures limits { IfOk result (λ solo. solo.limits ≡ limits.now) }
+        ensures used { IfOk result (λ solo. solo.used ≡ 0) }
     {
         Ok(Solo {
             journal: Journal::new(alloc, limits),
-            filesystems: Vec::new(alloc),
+            stripes: Stripes::start(alloc)?,
+            used: 0,
         })
     }
 
-    /// The journal.
+    /// The journal. The parts stand for the tree that its run leaves, and as many ids are used as its entries made nodes.
     pub fn journal(&self) -> &Journal<Entry>
-        ensures { result.now ≡ self.now }
+        ensures journal { result.now ≡ journal_in self.now }
+        ensures stands { Stands (parts_in self.now) (tree_of self.now.entries) }
+        ensures used { self.now.used ≡ made_by self.now.entries }
     {
         &self.journal
     }
@@ -88,9 +98,9 @@ impl Solo {
         ensures ok { IfOk result (λ answer. Submits self.old self.new (record { conn = conn; index = index; moment = moment; request = request }) answer) }
         ensures refused { OnErr result (IsUnchanged self.old self.new) }
         ensures limits { self.new.limits ≡ self.old.limits }
-        ensures within { IsWithin body_of self.new }
-        ensures full { IsErrOf result (SubmitRefusal.Full Full.JournalFull) ↔ IsFull self.old }
-        ensures bytes_full { IsErrOf result (SubmitRefusal.Full Full.JournalBytesFull) ↔ IsFullFor body_of self.old (length request.body) }
+        ensures within { IsWithin body_of (journal_in self.new) }
+        ensures full { IsErrOf result (SubmitRefusal.Full Full.JournalFull) ↔ IsFull (journal_in self.old) }
+        ensures bytes_full { IsErrOf result (SubmitRefusal.Full Full.JournalBytesFull) ↔ IsFullFor body_of (journal_in self.old) (length request.body) }
     {
         match self.journal.reserve(request.body.bytes().len() as u64) {
             Ok(()) => {}
@@ -98,34 +108,36 @@ impl Solo {
             Err(ReserveStop::NoMemory) => return Err(SubmitRefusal::NoMemory),
         }
         let number = self.journal.len() + 1;
-        let Ok(draft) = draft_of(alloc, self.filesystems.as_slice(), &request, moment) else {
-            return Err(SubmitRefusal::NoMemory);
+        let fresh = Fresh {
+            pass: 0,
+            used: self.used,
+        };
+        let draft = match eval(alloc, &mut self.stripes, &request, moment, &fresh) {
+            Ok(draft) => draft,
+            Err(EvalStop::Need(_)) => unreachable!(),
+            Err(EvalStop::NoMemory) => return Err(SubmitRefusal::NoMemory),
         };
         let Ok(bytes) = spell(alloc, &draft.reply, number, moment, request.head) else {
             return Err(SubmitRefusal::NoMemory);
         };
-        if self.filesystems.reserve(1).is_err() {
+        if self
+            .stripes
+            .reserve(alloc, draft.changes.as_slice())
+            .is_err()
+        {
             return Err(SubmitRefusal::NoMemory);
         }
-        let Draft { reply: _, made } = draft;
         self.journal.push(Entry {
             conn,
             index,
             moment,
             request,
         });
-        if let Some(fs) = made {
-            match self.filesystems.push(fs) {
-                Ok(()) => {}
-                Err(_) => unreachable!(),
-            }
-        }
-        let receipt = Receipt {
-            number,
-            shared: 0,
-            exclusive: 0,
-            rounds: 1,
-        };
-        Ok(Answer { bytes, receipt })
+        self.stripes.apply(draft.changes.as_slice(), number);
+        self.used += u64::from(draft.drawn);
+        Ok(Answer {
+            bytes,
+            receipt: receipt_of(number, draft.reads.as_slice(), draft.writes.as_slice()),
+        })
     }
 }

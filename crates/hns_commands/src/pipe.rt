@@ -12,9 +12,10 @@ pub const USAGE: &str =
     "usage: hns pipe\n  serves HTTP/1.1 requests from standard input and writes the replies to standard output";
 
 /// `hns pipe`: serves one connection from an empty namespace, with the greatest limits, and answers the exit status: 0 where the source
-/// was at its end between two requests, 3 where the source failed, 4 where the sink failed, 5 for want of memory, 6 where the source was
-/// at its end within a request or its bytes are no request, 8 where as many requests were answered as one connection may send.
-/// Other words give 2, and then nothing is read or written.
+/// was at its end between two requests or the last request asked for the connection to be closed, 3 where the source failed, 4 where the
+/// sink failed, 5 for want of memory, 6 where the source was at its end within a request or its bytes are no request, 8 where as many
+/// requests were answered as one connection may send and the last one did not ask for that. Other words give 2, and then nothing is read
+/// or written.
 pub fn run_pipe<S: Source, K: Sink, C: Clock>(
     alloc: Global,
     words: &[String],

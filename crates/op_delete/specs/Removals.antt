@@ -106,12 +106,12 @@ pub record IsLevel (parts : Parts) (root depth : ℕ) (ids : List NodeId) : Type
   pub reached : (i : ℕ) → is_one_of i (numbers_of ids) ≡ true → (q : Path) × (length q ≡ depth) × (follow parts root q ≡ Some i)
   pub all : (q : Path) (i : ℕ) → length q ≡ depth → follow parts root q ≡ Some i → is_one_of i (numbers_of ids) ≡ true
 
--- all ids to which less names lead from this one
+-- ids to which names lead from this one, and all to which fewer names lead
 pub record AreAbove (parts : Parts) (root depth : ℕ) (ids : List NodeId) : Type 0 where
   pub reached : (i : ℕ) → is_one_of i (numbers_of ids) ≡ true → (q : Path) × (follow parts root q ≡ Some i)
   pub all : (q : Path) (i : ℕ) → length q < depth → follow parts root q ≡ Some i → is_one_of i (numbers_of ids) ≡ true
 
--- all ids to which less than 60 names lead from this one, its own too
+-- only ids to which names lead from this one, and all to which less than 60 names lead, its own too
 abbrev pub AreCollected : Shown → ℕ → List NodeId → Type 0
 AreCollected shown root ids = (parts : Parts) (t : Tree) → Stands parts t → Agrees shown parts → AreAbove parts root 60 ids
 
@@ -180,7 +180,7 @@ pub record IsRemoval (held : Held) (shown : Shown) (request : Request) (moment :
 abbrev pub removals : NodeId → List ℕ → List NodeId → List Change
 removals base name taken = change.Unlink base name ∷ map (λ (id : NodeId). change.Drop id) taken
 
--- A draft by which these nodes go, the first of which has this name in the directory.
+-- A draft by which this name goes from the directory, and these nodes go.
 pub record IsRemoved (close : Bool) (reads writes : List NodeId) (base : NodeId) (name : List ℕ) (taken : List NodeId) (d : Draft) : Type 0 where
   pub replies : d.reply ≡ closing close (success 200 [])
   pub reads_these : d.reads.items ≡ reads

@@ -1,15 +1,16 @@
 ghost use Rattle.std.specs.Prelude.{IfOk};
-ghost use Rattle.engine.specs.Built.{IsBuilt};
+ghost use Rattle.namespace_model.specs.Built.{IsBuilt};
 ghost use Rattle.namespace_model.specs.Sound.{IsSound};
 
 use super::texts::{CREATED, NOT_BUILT_CLOSING};
 use commit_journal::{Full, Limits};
 use conn_io::LAST_MOMENT;
-use engine::{Solo, SubmitRefusal, decode};
+use engine::{Answer, Solo, SubmitRefusal};
 use file_data::{Piece, SharedPiece};
 use head_text::{Conditions, HeaderList};
 use http_front::Raw;
 use namespace_model::{Code, Op, Request};
+use op_decode::decode;
 use std::alloc::{AllocError, Global};
 use std::test::Fail;
 
@@ -55,8 +56,8 @@ fn a_full_engine_refuses_and_stays(rt: HostRuntime) -> Result<(), Fail> {
     Ok(())
 }
 
-// The request to make the filesystem `data`, as it was read.
-fn raw_request(alloc: Global) -> Result<Raw, AllocError> {
+// A PUT by the superuser, as it was read.
+fn raw_put(alloc: Global, target: &[u8]) -> Result<Raw, AllocError> {
     let mut pairs = Vec::new(alloc);
     pairs.push((
         b"X-MS-Caller".as_slice().to_vec(alloc)?,
@@ -64,24 +65,41 @@ fn raw_request(alloc: Global) -> Result<Raw, AllocError> {
     ))?;
     Ok(Raw {
         method: Piece::new(b"PUT".as_slice().to_vec(alloc)?),
-        target: Piece::new(b"/data?resource=filesystem".as_slice().to_vec(alloc)?),
+        target: Piece::new(target.to_vec(alloc)?),
         minor: 1,
         headers: HeaderList::new(pairs),
         body: SharedPiece::new(alloc, Piece::new(Vec::new(alloc)))?,
     })
 }
 
+fn put(alloc: Global, solo: &mut Solo, target: &[u8]) -> Result<Answer, Fail> {
+    let request = decode(alloc, &raw_put(alloc, target)?)?;
+    Ok(
+        solo.submit(alloc, 0, 0, request, 0)
+            .ok()
+            .ok_or("an answer")?,
+    )
+}
+
 #[test]
-fn a_request_to_make_a_filesystem_is_decoded_and_answered(rt: HostRuntime) -> Result<(), Fail> {
+fn receipts_have_the_stripes_of_their_entries(rt: HostRuntime) -> Result<(), Fail> {
     let alloc = rt.alloc();
-    let request = decode(alloc, &raw_request(alloc)?)?;
-    assert!(rt; request.caller.is_some());
     let mut solo = Solo::start(alloc, &Limits::new(1, 10, 4, 1).ok_or("limits")?)?;
-    let answer = solo
-        .submit(alloc, 0, 0, request, 0)
-        .ok()
-        .ok_or("an answer")?;
-    assert_eq!(rt; answer.bytes.as_slice(), CREATED);
+    let root = put(alloc, &mut solo, b"/data?resource=filesystem")?;
+    assert_eq!(rt; root.bytes.as_slice(), CREATED);
+    assert_eq!(rt; (root.receipt.shared, root.receipt.exclusive), (0, 0b11));
+    let made = put(alloc, &mut solo, b"/data/a/f?resource=file")?;
+    assert_eq!(rt;
+        (made.receipt.shared, made.receipt.exclusive),
+        (0b1, 0b1110)
+    );
+    let again = put(alloc, &mut solo, b"/data/a/f?resource=file")?;
+    assert_eq!(rt; again.receipt.number, 3);
+    assert_eq!(rt; again.receipt.rounds, 1);
+    assert_eq!(rt;
+        (again.receipt.shared, again.receipt.exclusive),
+        (0b11, 0b11100)
+    );
     Ok(())
 }
 

@@ -1,13 +1,14 @@
 use super::texts::{
-    BAD_NAME, CREATE, CREATED, EXISTS, GET, LAST, NAMED_BADLY, NOT_BUILT, NOT_BUILT_HEAD,
+    BAD_NAME, CREATE, CREATED, CREATED_CLOSING, EXISTS, GET, LAST, NAMED_BADLY, NO_CALLER,
+    NO_CALLER_HEAD, NOT_BUILT,
 };
 use conn_io::{BytesIn, BytesOut, FixedClock};
 use hns_commands::run_pipe;
 use std::alloc::{AllocError, Global};
 use std::test::Fail;
 
-// What `hns pipe` writes and its status, where its input comes in pieces of this length.
-fn piped(alloc: Global, input: &[u8], piece: usize) -> Result<(Vec<u8>, u8), AllocError> {
+/// What `hns pipe` writes and its status, where its input comes in pieces of this length, in bytes.
+pub fn piped(alloc: Global, input: &[u8], piece: usize) -> Result<(Vec<u8>, u8), AllocError> {
     let mut pieces = Vec::new(alloc);
     for part in input.chunks(piece.max(1)) {
         pieces.push(part.to_vec(alloc)?)?;
@@ -48,19 +49,19 @@ fn create_conflict_and_bad_name_in_any_cut(rt: HostRuntime) -> Result<(), Fail> 
 }
 
 #[test]
-fn what_is_not_built_is_answered(rt: HostRuntime) -> Result<(), Fail> {
+fn each_request_is_answered(rt: HostRuntime) -> Result<(), Fail> {
     let alloc = rt.alloc();
     for (input, output, status) in [
         (b"".as_slice(), b"".as_slice(), 0u8),
-        (GET, NOT_BUILT, 0),
+        (GET, NO_CALLER, 0),
         (
             b"HEAD /data HTTP/1.1\r\nHost: h\r\n\r\n".as_slice(),
-            NOT_BUILT_HEAD,
+            NO_CALLER_HEAD,
             0,
         ),
         (
             b"PUT /data?resource=filesystem HTTP/1.0\r\nx-ms-caller: $superuser\r\n\r\n".as_slice(),
-            NOT_BUILT,
+            CREATED_CLOSING,
             0,
         ),
         (
@@ -70,7 +71,7 @@ fn what_is_not_built_is_answered(rt: HostRuntime) -> Result<(), Fail> {
         ),
         (
             b"PUT /data?resource=filesystem HTTP/1.1\r\nX-Other: a\r\nx-ms-caller: $superuser\r\n\r\n".as_slice(),
-            NOT_BUILT,
+            CREATED,
             0,
         ),
         (b"put it\r\n\r\n".as_slice(), LAST, 6),
@@ -108,7 +109,7 @@ fn head_of(alloc: Global, length: usize) -> Result<Vec<u8>, AllocError> {
 #[test]
 fn the_longest_head_is_answered(rt: HostRuntime) -> Result<(), Fail> {
     let alloc = rt.alloc();
-    for (length, output, status) in [(16384usize, NOT_BUILT, 0u8), (16385, LAST, 6)] {
+    for (length, output, status) in [(16384usize, NO_CALLER, 0u8), (16385, LAST, 6)] {
         let (written, ended) = piped(alloc, head_of(alloc, length)?.as_slice(), 4096)?;
         assert_eq!(rt; written.as_slice(), output);
         assert_eq!(rt; ended, status);

@@ -1,0 +1,238 @@
+-- What a submit makes of the sequential engine.
+use Rattle.std.proofs.Common.{◌≡◌, ℕ, zero, suc, ◌+◌, ◌%◌, ◌<◌, ◌≤◌, nat_lt, leb, Bool, true, false, cond, List, [], ◌∷◌, ◌++◌, map, flat_map, zip, length, slice_get, Option, Some, None, is_some, refl, ap, sym, subst, ◌∙◌, length-append, arith}
+use Rattle.std.proofs.lemmas.Bool.{false≢true}
+use Rattle.conn_io.specs.declared.outside.TheConstants.{LAST_MOMENT}
+use Rattle.lock_core.specs.declared.object.LockMode.TheVariants as mode
+use Rattle.namespace_model.specs.declared.request.Entry.{Entry}
+use Rattle.namespace_model.specs.declared.request.Request.{Request}
+use Rattle.namespace_model.specs.Built.{IsBuilt}
+use Rattle.namespace_model.specs.Outcomes.{Outcome}
+use Rattle.namespace_model.specs.Sound.{IsSound}
+use Rattle.namespace_model.specs.Stamps.{HasRightStamp, newly_stamped, stamp_kept}
+use Rattle.namespace_model.specs.Step.{outcome, step, new_paths, tree_from, tree_of}
+use Rattle.namespace_model.specs.Trees.{Path, Tree, opening_tree}
+use Rattle.namespace_model.proofs.Runs.{tree_push}
+use Rattle.namespace_model.proofs.StepStamps.{stamps_after}
+use Rattle.inode_tree.specs.declared.change.Change.{Change}
+use Rattle.inode_tree.specs.declared.draft.Draft.{Draft}
+use Rattle.inode_tree.specs.declared.fresh.Fresh.{Fresh}
+use Rattle.inode_tree.specs.declared.id.NodeId.{NodeId}
+use Rattle.inode_tree.specs.declared.need.Need.{Need}
+use Rattle.inode_tree.specs.declared.placed.Placed.{Placed}
+use Rattle.inode_tree.specs.After.{Relink, turn_of, making_of, turns_by, turns_on, outcome_on, known, drawn_ids, relinks, after}
+use Rattle.inode_tree.specs.Changes.{Part}
+use Rattle.inode_tree.specs.Drawing.{next_ids}
+use Rattle.inode_tree.specs.Footprints.{read_ids, written_ids, lies_in, reads, writes}
+use Rattle.inode_tree.specs.Inodes.{BareInode}
+use Rattle.inode_tree.specs.Parts.{Parts, inode_at, follow, id_at}
+use Rattle.inode_tree.specs.Promises.{applied_all, numbers_of, is_one_of, IsEntryOf, IsOfStep, IsDraft, IsNeed}
+use Rattle.inode_tree.specs.Rows.{fresh_id}
+use Rattle.inode_tree.specs.Stands.{Stands}
+use Rattle.inode_tree.specs.Views.{Held, Shown, ArePossible, covers}
+use Rattle.inode_tree.proofs.PromiseLemmas.{lies_one}
+use Rattle.inode_tree.proofs.PairLemmas.{known_is}
+use Rattle.inode_tree.proofs.TurnLemmas.{turned_by, Lacks, lacks_all, left_alone, inode-after}
+use Rattle.path_walk.proofs.SetLemmas.{one_lies}
+use Rattle.engine.specs.Solos.{SoloView, parts_in, placed_behind, HasDates, IsKept, made_from, made_by}
+use Rattle.reply_text.specs.ReplyText.{CanSpell, reply_text}
+use Rattle.std.proofs.Math.Dec.{lit<}
+use Rattle.std.proofs.Math.Nat.{mod-lt}
+use Rattle.striped_store.specs.Receipts.{AreBits}
+use Rattle.inode_tree.specs.Parts as parts
+use Rattle.engine.specs.declared.solo.Answer.{Answer}
+use Rattle.engine.specs.Submits.{Submits, texts_of}
+use Rattle.engine.proofs.FineSteps.{IsFine, outcome_fine}
+use Rattle.engine.proofs.StripeLemmas.{at_within}
+use Rattle.engine.proofs.Texts.{texts_push}
+
+-- ---- all stripes are held
+
+abbrev all_held : Held
+all_held stripe = mode.Exclusive
+
+-- nothing is needed
+pub needs_nothing : (shown : Shown) (request : Request) (moment : ℕ) (fresh : Fresh) (n : Need) → ¬ IsNeed all_held shown request moment fresh n
+needs_nothing shown request moment fresh n need = by_mode n.mode need.lacks
+  where
+    by_mode : (m : _) → covers mode.Exclusive m ≡ false → ⊥
+    by_mode mode.None h = false≢true (sym h)
+    by_mode mode.Shared h = false≢true (sym h)
+    by_mode mode.Exclusive h = false≢true (sym h)
+
+-- ---- how many nodes were made
+
+plus_assoc : (a b c : ℕ) → a + (b + c) ≡ (a + b) + c
+plus_assoc a b c = omega arith
+
+made_from_push : (t : Tree) (n : ℕ) (es : List Entry) (e : Entry) → made_from t n (es ++ e ∷ []) ≡ made_from t n es + length (new_paths (tree_from t n es) e)
+unfolding made_from tree_from
+made_from_push t n [] e = let h : length (new_paths t e) + 0 ≡ 0 + length (new_paths t e) = omega arith in h
+made_from_push t n (x ∷ es) e =
+    ap (λ m. length (new_paths t x) + m) (made_from_push (step t x n).tree (suc n) es e)
+    ∙ plus_assoc (length (new_paths t x)) (made_from (step t x n).tree (suc n) es) (length (new_paths (tree_from (step t x n).tree (suc n) es) e))
+
+-- one entry more makes those of its own
+made_push : (es : List Entry) (e : Entry) → made_by (es ++ e ∷ []) ≡ made_by es + length (new_paths (tree_of es) e)
+unfolding made_by tree_of
+made_push es e = made_from_push opening_tree 1 es e
+
+-- ---- dates
+
+dates_step : (t : Tree) (e : Entry) (number : ℕ) (parts : Parts) → Stands parts t → IsSound e.request → e.moment ≤ LAST_MOMENT → HasDates t → HasDates (step t e number).tree
+dates_step t e number parts stands sound timely dates q y there = by_stamp (stamps_after t stands.tree e sound number q y there)
+  where
+    by_stamp : HasRightStamp t e (outcome t e) number q y → y.moment ≤ LAST_MOMENT
+    by_stamp (newly_stamped p followed may stamped has) = subst (λ m. m ≤ LAST_MOMENT) (sym has.moment_is) timely
+    by_stamp (stamp_kept p x followed there same) = subst (λ m. m ≤ LAST_MOMENT) (sym same.moment_is) (dates p x there)
+
+-- ---- ids that stay free
+
+-- ids that were drawn before are not the one at a later place
+lacks_later : (paths : List Path) (used many k : ℕ) → used + many ≤ k → Lacks (fresh_id 0 k) (zip paths (map (λ (i : NodeId). i.0) (next_ids 0 used many)))
+lacks_later [] used many k h = tt
+lacks_later (p ∷ paths) used zero k h = tt
+lacks_later (p ∷ paths) used (suc many) k h = (λ e. absurd (omega arith), lacks_later paths (suc used) many k (omega arith))
+
+followed : (parts : Parts) (p : Path) (id : ℕ) → id_at parts p ≡ Some id → follow parts 0 p ≡ Some id
+followed parts p id e = by_length (leb (length p) 60) e
+  where
+    by_length : (b : Bool) → cond b (follow parts 0 p) None ≡ Some id → follow parts 0 p ≡ Some id
+    by_length true h = h
+    by_length false h = absurd (false≢true (ap is_some h))
+
+-- an id that isn't kept is none of a path
+known_lacks : (parts : Parts) (t : Tree) (id : ℕ) (ps : List Path) → Stands parts t → inode_at parts id ≡ None → Lacks id (known parts ps)
+known_lacks parts t id ps stands none =
+    lacks_all id (known parts ps)
+    (λ x h same.
+    let is = known_is parts ps x h in
+    absurd (false≢true (sym (ap is_some (ap (inode_at parts) same ∙ none)) ∙ stands.found x.0 x.1 (followed parts x.0 x.1 is.1))))
+
+abbrev links_of : Outcome → List (Path × ℕ) → List ℕ → List Relink
+links_of o xs ids = relinks o.effect xs (zip o.fresh ids)
+
+-- an id of no turn has what was there
+turns_leave : (o : Outcome) (xs : List (Path × ℕ)) (ids : List ℕ) (number id : ℕ) (before : Option BareInode) → Lacks id xs → Lacks id (zip o.fresh ids) → turned_by number id (turns_by o xs ids) before ≡ before
+turns_leave o xs ids number id before old new = by_count (nat_lt (length ids) (length o.fresh))
+  where
+    by_count : (b : Bool) → turned_by number id (cond b [] (map (turn_of o.effect (links_of o xs ids)) xs ++ flat_map (making_of o.effect (links_of o xs ids)) (zip o.fresh ids))) before ≡ before
+    by_count true = refl
+    by_count false = left_alone number o.effect (links_of o xs ids) id xs (zip o.fresh ids) before old new
+
+-- ---- the stripes of a footprint
+
+same_tests : (a b : Bool) → (a ≡ true → b ≡ true) → (b ≡ true → a ≡ true) → a ≡ b
+same_tests true b to from = sym (to refl)
+same_tests false false to from = refl
+same_tests false true to from = from refl
+
+same_stripes : (xs ys : List ℕ) → ((id : ℕ) → is_one_of id xs ≡ is_one_of id ys) → (stripe : ℕ) → lies_in stripe xs ≡ lies_in stripe ys
+same_stripes xs ys same stripe =
+    same_tests _ _
+    (λ h. let l = lies_one stripe xs h in one_lies stripe l.0 ys (sym (same l.0) ∙ l.1) l.2)
+    (λ h. let l = lies_one stripe ys h in one_lies stripe l.0 xs (same l.0 ∙ l.1) l.2)
+
+-- ---- a submit
+
+module _ (old : SoloView) (kept : IsKept old) (e : Entry) (sound : IsSound e.request) (built : IsBuilt e.request) (timely : e.moment ≤ LAST_MOMENT)
+    (shown : Shown) (shows : (stripe : ℕ) → shown stripe ≡ slice_get (parts_in old) stripe) (fresh : Fresh) (pass : fresh.pass ≡ 0) (used : fresh.used ≡ old.used)
+    (d : Draft) (draft : IsDraft all_held shown e.request e.moment fresh d) where
+  abbrev t : Tree
+  t = tree_of old.entries
+
+  abbrev placed : Placed
+  placed = placed_behind old e
+
+  entry_of : IsEntryOf e.request e.moment fresh t placed
+  entry_of = record {
+    asks = refl;
+    comes_at = refl;
+    by = sym pass;
+    draws = ap (λ p. next_ids p old.used (length (new_paths t e))) (sym pass) ∙ ap (λ u. next_ids fresh.pass u (length (new_paths t e))) (sym used);
+  }
+
+  possible : ArePossible shown fresh.pass fresh.used (parts_in old) t
+  possible = record {
+    stands = kept.stands;
+    agrees = λ stripe part h. sym (shows stripe) ∙ h;
+    free = λ k h. ap (λ p. inode_at (parts_in old) (fresh_id p k)) pass ∙ kept.free k (subst (λ u. u ≤ k) used h);
+  }
+
+  pub of_step : IsOfStep d (parts_in old) t placed
+  of_step = draft.of_step (parts_in old) t placed possible entry_of
+
+  pub fine : IsFine (outcome t e)
+  fine = outcome_fine t e sound built timely kept.dates
+
+  pub spelled : CanSpell d.reply
+  spelled = subst CanSpell (sym of_step.reply) fine.spelled
+
+  abbrev number : ℕ
+  number = length old.entries + 1
+
+  pub parts_after : (parts : Parts) → parts ≡ applied_all number d.changes.items (parts_in old) → parts ≡ after (parts_in old) placed number
+  parts_after parts is = is ∙ of_step.parts_after number
+
+  -- the parts with the changes stand for the tree that they show
+  pub stand_so : Stands (applied_all number d.changes.items (parts_in old)) (parts.tree_of (applied_all number d.changes.items (parts_in old)))
+  stand_so = let s = of_step.stands number in subst (Stands (applied_all number d.changes.items (parts_in old))) (sym s.shown) s
+
+  free_after : (k : ℕ) → old.used + length (new_paths t e) ≤ k → inode_at (after (parts_in old) placed number) (fresh_id 0 k) ≡ None
+  free_after k h =
+      let there = part_there (fresh_id 0 k % 64) (mod-lt (fresh_id 0 k) (lit< tt)) in
+      inode-after number (fresh_id 0 k) (turns_on (parts_in old) placed) (parts_in old) there.0 there.1
+      ∙ turns_leave (outcome_on (parts_in old) placed) (known (parts_in old) (outcome_on (parts_in old) placed).written) (drawn_ids placed) number (fresh_id 0 k) (inode_at (parts_in old) (fresh_id 0 k))
+      (known_lacks (parts_in old) t (fresh_id 0 k) (outcome_on (parts_in old) placed).written kept.stands free_now)
+      (lacks_later (outcome_on (parts_in old) placed).fresh old.used (length (new_paths t e)) k h)
+      ∙ free_now
+    where
+      free_now : inode_at (parts_in old) (fresh_id 0 k) ≡ None
+      free_now = kept.free k (omega arith)
+
+      part_there : (stripe : ℕ) → stripe < 64 → (part : Part) × (slice_get (parts_in old) stripe ≡ Some part)
+      part_there stripe h = at_within (parts_in old) stripe (subst (λ n. stripe < n) (sym kept.stands.striped.long) h)
+
+  -- what is kept behind the entry
+  pub kept_after : (new : SoloView) → new.entries ≡ old.entries ++ e ∷ [] → parts_in new ≡ applied_all number d.changes.items (parts_in old) → new.used ≡ old.used + d.drawn → IsKept new
+  kept_after new pushed is drawn =
+      let tree_is : tree_of new.entries ≡ (step t e number).tree = ap tree_of pushed ∙ tree_push old.entries e in
+      record {
+        stands = subst (Stands (parts_in new)) (sym tree_is) (subst (λ (ps : Parts). Stands ps (step t e number).tree) (sym is) (of_step.stands number));
+        made = drawn ∙ ap (λ n. old.used + n) of_step.drawn ∙ ap (λ n. n + length (new_paths t e)) kept.made ∙ sym (made_push old.entries e) ∙ sym (ap made_by pushed);
+        dates = subst HasDates (sym tree_is) (dates_step t e number (parts_in old) kept.stands sound timely kept.dates);
+        few = omega (arith, ap length pushed, length-append old.entries (e ∷ []), drawn, of_step.drawn, fine.few, kept.few);
+        free = λ k h. ap (λ (ps : Parts). inode_at ps (fresh_id 0 k)) (parts_after (parts_in new) is) ∙ free_after k (omega (arith, h, drawn, of_step.drawn));
+      }
+
+  pub written_stripes : (k : ℕ) → lies_in k (numbers_of d.writes.items) ≡ writes (parts_in old) placed k
+  written_stripes k = same_stripes (numbers_of d.writes.items) (written_ids (parts_in old) placed) of_step.written_ids k
+
+  pub read_stripes : (k : ℕ) → lies_in k (numbers_of d.reads.items) ≡ reads (parts_in old) placed k
+  read_stripes k = same_stripes (numbers_of d.reads.items) (read_ids (parts_in old) placed) of_step.read_ids k
+
+  -- the entry is submitted
+  pub submits : (new : SoloView) (answer : Answer) → new.entries ≡ old.entries ++ e ∷ [] → parts_in new ≡ applied_all number d.changes.items (parts_in old) → new.used ≡ old.used + d.drawn
+      → answer.bytes.items ≡ reply_text d.reply number e.moment e.request.head → answer.receipt.number ≡ number
+      → AreBits answer.receipt.exclusive (λ k. lies_in k (numbers_of d.writes.items) ≡ true)
+      → AreBits answer.receipt.shared (λ k. (lies_in k (numbers_of d.writes.items) ≡ false) × (lies_in k (numbers_of d.reads.items) ≡ true))
+      → answer.receipt.rounds ≡ 1 → Submits old new e answer
+  submits new answer pushed is drawn text numbered exclusive shared rounds =
+      let longer : length new.entries ≡ number = ap length pushed ∙ length-append old.entries (e ∷ []) in
+      record {
+        journal = pushed;
+        text = ap texts_of pushed ∙ texts_push old.entries e ∙ ap (λ x. texts_of old.entries ++ x ∷ []) (sym (text ∙ ap (λ r. reply_text r number e.moment e.request.head) of_step.reply));
+        parts = parts_after (parts_in new) is ∙ ap (after (parts_in old) placed) (sym longer);
+        ids = drawn ∙ ap (λ n. old.used + n) of_step.drawn;
+        number = numbered ∙ sym longer;
+        written = λ k h. let b = exclusive k h in (λ x. sym (written_stripes k) ∙ b.0 x, λ x. b.1 (written_stripes k ∙ x));
+        read = λ k h. let b = shared k h in
+            (λ x. let both = b.0 x in (sym (written_stripes k) ∙ both.0, sym (read_stripes k) ∙ both.1), λ x. b.1 (written_stripes k ∙ x.0, read_stripes k ∙ x.1));
+        rounds = rounds;
+      }
+
+  -- the changes in the words of the code
+  pub applied_is : (n : ℕ) (changes : List Change) (ps : Parts) → n ≡ number → changes ≡ d.changes.items → ps ≡ parts_in old → applied_all n changes ps ≡ applied_all number d.changes.items (parts_in old)
+  applied_is n changes ps a b c = ap (λ m. applied_all m changes ps) a ∙ ap (λ cs. applied_all number cs ps) b ∙ ap (applied_all number d.changes.items) c
+
+  pub stand_as : (ps : Parts) → ps ≡ applied_all number d.changes.items (parts_in old) → Stands ps (parts.tree_of ps)
+  stand_as ps is = subst (λ (qs : Parts). Stands qs (parts.tree_of qs)) (sym is) stand_so

@@ -1,0 +1,48 @@
+//! The account, as it is at the start.
+ghost use Rattle.std.specs.Prelude.{◌≡◌, IfOk};
+ghost use Rattle.engine.specs.Opening.{account_inode};
+ghost use Rattle.inode_tree.specs.Inodes.{bare};
+
+use acl_check::base_pair;
+use acl_text::{Id, ModeBits, Perm};
+use head_text::Props;
+use inode_tree::{Children, Content, Inode, Meta};
+use lease_state::Lease;
+use namespace_model::Kind;
+use std::alloc::{AllocError, Global};
+
+// The superuser's directory without children, which gives nobody anything.
+pub(crate) fn account(alloc: Global) -> Result<Inode, AllocError>
+    ensures { IfOk result (λ inode. bare inode ≡ account_inode) }
+{
+    let none = no_bits();
+    let mode = ModeBits {
+        sticky: false,
+        owner: none,
+        group: none,
+        other: none,
+    };
+    Ok(Inode {
+        meta: Meta {
+            kind: Kind::Directory,
+            owner: Id::superuser(alloc)?,
+            group: Id::superuser(alloc)?,
+            acl: base_pair(alloc, &mode)?,
+            sticky: false,
+            moment: 0,
+            number: 0,
+            props: Props::none(alloc),
+            lease: Lease::Available,
+        },
+        content: Content::Directory(Children::new(alloc)),
+    })
+}
+
+fn no_bits() -> Perm
+    ensures { result ≡ 0 }
+{
+    match Perm::new(0) {
+        Some(bits) => bits,
+        None => unreachable!(),
+    }
+}

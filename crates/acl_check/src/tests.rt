@@ -170,6 +170,9 @@ fn umasks(rt: HostRuntime) -> Result<(), Fail> {
     }
     let mode = read_permissions("0741".as_bytes())?;
     let made = text_of(rt.alloc(), &base_pair(rt.alloc(), &mode)?)?;
-    assert_eq!(rt; made.as_slice(), b"user::rwx,group::r--,other::--x".as_slice());
+    assert_eq!(rt;
+        made.as_slice(),
+        b"user::rwx,group::r--,other::--x".as_slice()
+    );
     Ok(())
 }

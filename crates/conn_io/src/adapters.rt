@@ -1,4 +1,5 @@
-use super::outside::{Clock, Failed, LAST_MOMENT, Sink, Source};
+use super::outside::{Clock, Failed, Sink, Source};
+use lease_state::LAST_MOMENT;
 use std::io::{Read, Write};
 use std::rt;
 use std::time::{SystemTime, UNIX_EPOCH};

@@ -1,7 +1,8 @@
 ghost use Rattle.std.specs.Prelude.{◌<◌, ◌≤◌, All, length};
-ghost use Rattle.conn_io.specs.declared.outside.TheConstants.{LAST_MOMENT};
+ghost use Rattle.lease_state.specs.declared.lease.TheConstants.{LAST_MOMENT};
 
-use super::outside::{Clock, LAST_MOMENT};
+use super::outside::Clock;
+use lease_state::LAST_MOMENT;
 
 /// A clock that stands still, at this many milliseconds since 1970, or at the last moment where that is less.
 #[derive(Clone, Copy, Debug, PartialEq, Eq)]
@@ -9,7 +10,7 @@ pub struct FixedClock(pub u64);
 
 impl Clock for FixedClock {
     ghost use Rattle.std.specs.Prelude.{Some, min};
-    ghost use Rattle.conn_io.specs.declared.outside.TheConstants.{LAST_MOMENT};
+    ghost use Rattle.lease_state.specs.declared.lease.TheConstants.{LAST_MOMENT};
 
     ghost ahead = { λ c. Some (λ k. min c.0 LAST_MOMENT) };
 
@@ -29,7 +30,7 @@ pub struct ListClock {
 
 impl ListClock {
     ghost use Rattle.std.specs.Prelude.{◌≡◌, ℕ, ◌<◌, ◌≤◌, ◌-◌, All, min, slice_index, vec_len};
-    ghost use Rattle.conn_io.specs.declared.outside.TheConstants.{LAST_MOMENT};
+    ghost use Rattle.lease_state.specs.declared.lease.TheConstants.{LAST_MOMENT};
     ghost use Rattle.conn_io.specs.Memory.{moments_ahead};
 
     /// A clock over these moments, in milliseconds since 1970.

@@ -17,7 +17,8 @@ mod outside;
 pub use adapters::{StdIn, StdOut, SystemClock};
 pub use clocks::{FixedClock, ListClock};
 pub use memory::{BytesIn, BytesOut};
-pub use outside::{Clock, Failed, LAST_MOMENT, Sink, Source};
+pub use lease_state::LAST_MOMENT;
+pub use outside::{Clock, Failed, Sink, Source};
 
 #[cfg(test)]
 mod tests;

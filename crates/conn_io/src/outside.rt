@@ -3,11 +3,9 @@ ghost use Rattle.std.specs.Io.{ReadsAtMost};
 ghost use Rattle.std.specs.Io.KnownBytes.{ReadConsumes, WriteAppends};
 ghost use Rattle.conn_io.specs.Causes.{HasCause};
 ghost use Rattle.conn_io.specs.Moments.{Ticks};
+ghost use Rattle.lease_state.specs.declared.lease.TheConstants.{LAST_MOMENT};
 
 use thiserror::Error;
-
-/// The last moment of the year 9999, in milliseconds since 1970. No clock answers a later one.
-pub const LAST_MOMENT: u64 = 253_402_300_799_999;
 
 /// A read or a write failed, and the device counted it as a fault.
 #[derive(Clone, Copy, Debug, PartialEq, Eq, Error)]

@@ -2,7 +2,7 @@
 use Rattle.std.proofs.Common.{◌≡◌, ℕ, suc, ◌≤◌, Bool, true, false, cond, not, ◌&&◌, is_some, List, [], ◌∷◌, ◌++◌, map, length, drop, length-drop, Option, Some, None, Result, Ok, Err, lit≤, lit<, refl, ap, arith}
 use Rattle.std.specs.Option.{option_map_or}
 use Rattle.std.specs.Prelude.{IfSome}
-use Rattle.conn_io.specs.declared.outside.TheConstants.{LAST_MOMENT}
+use Rattle.lease_state.specs.declared.lease.TheConstants.{LAST_MOMENT}
 use Rattle.head_text.specs.declared.conditions.Unmet.{Unmet}
 use Rattle.head_text.specs.declared.conditions.Unmet.TheVariants as unmet
 use Rattle.head_text.specs.ConditionsOf.{conditions_of}

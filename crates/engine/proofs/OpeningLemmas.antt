@@ -6,7 +6,7 @@ use Rattle.std.specs.Cmp.{nat_cmp_total, unsigned_Decides}
 use Rattle.std.specs.FinMap as fin
 use Rattle.std.specs.FinMap.{get-insert, get-empty, nat_cmp-IsAntisymmetric}
 use Rattle.std.specs.Ordering.{nat_cmp}
-use Rattle.conn_io.specs.declared.outside.TheConstants.{LAST_MOMENT}
+use Rattle.lease_state.specs.declared.lease.TheConstants.{LAST_MOMENT}
 use Rattle.path_text.specs.Paths.{path_cmp, path_cmp_total}
 use Rattle.path_text.specs.Texts.{KeepsLimits}
 use Rattle.namespace_model.specs.Nodes.{Node, account}

@@ -1,7 +1,7 @@
 -- What a submit makes of the sequential engine.
 use Rattle.std.proofs.Common.{◌≡◌, ℕ, zero, suc, ◌+◌, ◌%◌, ◌<◌, ◌≤◌, nat_lt, leb, Bool, true, false, cond, List, [], ◌∷◌, ◌++◌, map, flat_map, zip, length, slice_get, Option, Some, None, is_some, refl, ap, sym, subst, ◌∙◌, length-append, arith}
 use Rattle.std.proofs.lemmas.Bool.{false≢true}
-use Rattle.conn_io.specs.declared.outside.TheConstants.{LAST_MOMENT}
+use Rattle.lease_state.specs.declared.lease.TheConstants.{LAST_MOMENT}
 use Rattle.lock_core.specs.declared.object.LockMode.TheVariants as mode
 use Rattle.namespace_model.specs.declared.request.Entry.{Entry}
 use Rattle.namespace_model.specs.declared.request.Request.{Request}

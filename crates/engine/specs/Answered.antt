@@ -1,7 +1,7 @@
 -- The answer to one raw request.
 use Rattle.std.specs.Prelude.{◌≡◌, ℕ, ◌≤◌, Bool, List, [], ◌∷◌, ◌++◌, Option}
 use Rattle.conn_io.specs.Moments.{Ticks}
-use Rattle.conn_io.specs.declared.outside.TheConstants.{LAST_MOMENT}
+use Rattle.lease_state.specs.declared.lease.TheConstants.{LAST_MOMENT}
 use Rattle.http_front.specs.declared.raw.Raw.{Raw}
 use Rattle.namespace_model.specs.declared.request.Entry.{Entry}
 use Rattle.op_decode.specs.Decoded.{decoded}

@@ -4,7 +4,7 @@ use Rattle.std.specs.List.{concat, flat_map}
 use Rattle.std.specs.Io.KnownBytes.{Consumes, Appends, IsAtEnd}
 use Rattle.conn_io.specs.Causes.{Rose}
 use Rattle.conn_io.specs.Moments.{IsForetold}
-use Rattle.conn_io.specs.declared.outside.TheConstants.{LAST_MOMENT}
+use Rattle.lease_state.specs.declared.lease.TheConstants.{LAST_MOMENT}
 use Rattle.http_front.specs.declared.answers.BadHttp.TheVariants.{NotBuilt}
 use Rattle.http_front.specs.Requests.{RequestText, print_text, IsComplete, raw_of, BeginsWithNone}
 use Rattle.http_front.specs.Reads.{IsNotBuilt}

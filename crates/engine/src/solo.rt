@@ -51,7 +51,7 @@ impl Model for Solo {
 
 impl Solo {
     ghost use Rattle.std.specs.Prelude.{◌≡◌, ◌≤◌, ◌↔◌, [], length, IfOk, OnErr, IsErrOf};
-    ghost use Rattle.conn_io.specs.declared.outside.TheConstants.{LAST_MOMENT};
+    ghost use Rattle.lease_state.specs.declared.lease.TheConstants.{LAST_MOMENT};
     ghost use Rattle.commit_journal.specs.Journal.{IsFull, IsFullFor, IsWithin};
     ghost use Rattle.inode_tree.specs.Stands.{Stands};
     ghost use Rattle.namespace_model.specs.Built.{IsBuilt};

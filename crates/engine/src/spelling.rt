@@ -1,5 +1,5 @@
 ghost use Rattle.std.specs.Prelude.{◌≡◌, ◌≤◌, IfOk};
-ghost use Rattle.conn_io.specs.declared.outside.TheConstants.{LAST_MOMENT};
+ghost use Rattle.lease_state.specs.declared.lease.TheConstants.{LAST_MOMENT};
 ghost use Rattle.reply_text.specs.declared.last.Last.TheVariants.{Bad};
 ghost use Rattle.reply_text.specs.LastReply.{last_reply_text};
 ghost use Rattle.reply_text.specs.ReplyText.{CanSpell, reply_text};

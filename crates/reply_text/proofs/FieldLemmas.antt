@@ -27,7 +27,7 @@ abbrev before_id : ℕ → ℕ → List ℕ
 before_id status moment = status_line status ++ line (codes "Date") (moment_text moment) ++ (codes "x-ms-request-id" ++ codes ": ")
 
 abbrev behind_id : List ℕ
-behind_id = line_end ++ line (codes "x-ms-version") (codes "2020-02-10")
+behind_id = line_end ++ line (codes "x-ms-version") (codes "2020-08-04")
 
 start_parts : (status moment n : ℕ) → before_id status moment ++ (hex16 n ++ behind_id) ≡ start_lines status moment n
 unfolding start_lines

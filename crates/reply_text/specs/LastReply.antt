@@ -17,6 +17,6 @@ last_code Busy = codes "ServerBusy"
 -- it ends the connection, and has no date, no number and no body
 unfoldable pub last_reply_text : Last → List ℕ
 last_reply_text last =
-    status_line (last_status last) ++ line (codes "x-ms-request-id") (hex16 0) ++ line (codes "x-ms-version") (codes "2020-02-10")
+    status_line (last_status last) ++ line (codes "x-ms-request-id") (hex16 0) ++ line (codes "x-ms-version") (codes "2020-08-04")
     ++ line (codes "Connection") (codes "close") ++ line (codes "x-ms-error-code") (last_code last)
     ++ line (codes "Content-Length") (codes "0") ++ line_end

@@ -18,7 +18,7 @@ use Rattle.reply_text.specs.Lines.{line_end, line, status_line, moment_text, bit
 unfoldable pub start_lines : ℕ → ℕ → ℕ → List ℕ
 start_lines status moment number =
     status_line status ++ line (codes "Date") (moment_text moment) ++ line (codes "x-ms-request-id") (hex16 number)
-    ++ line (codes "x-ms-version") (codes "2020-02-10")
+    ++ line (codes "x-ms-version") (codes "2020-08-04")
 
 -- the reply to a HEAD, and a 304, have no body
 abbrev pub is_bare : Reply → Bool → Bool

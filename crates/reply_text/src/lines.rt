@@ -62,7 +62,7 @@ pub(crate) fn put_open_number_line(out: &mut Vec<u8>) -> Result<(), AllocError>
 
 pub(crate) fn put_version_line(out: &mut Vec<u8>) -> Result<(), AllocError>
     ensures { OnOk result
-        (out.new.items ≡ out.old.items ++ line (codes "x-ms-version") (codes "2020-02-10")) }
+        (out.new.items ≡ out.old.items ++ line (codes "x-ms-version") (codes "2020-08-04")) }
 {
-    put_line(out, b"x-ms-version", b"2020-02-10")
+    put_line(out, b"x-ms-version", b"2020-08-04")
 }

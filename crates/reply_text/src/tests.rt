@@ -105,21 +105,21 @@ fn successes_are_spelled(rt: HostRuntime) -> Result<(), Fail> {
         &created(alloc)?,
         1,
         false,
-        b"before HTTP/1.1 201 Created\r\nDate: Thu, 01 Jan 1970 00:00:00 GMT\r\nx-ms-request-id: 0000000000000001\r\nx-ms-version: 2020-02-10\r\nETag: \"0x0000000000000001\"\r\nLast-Modified: Thu, 01 Jan 1970 00:00:00 GMT\r\nContent-Length: 0\r\n\r\n",
+        b"before HTTP/1.1 201 Created\r\nDate: Thu, 01 Jan 1970 00:00:00 GMT\r\nx-ms-request-id: 0000000000000001\r\nx-ms-version: 2020-08-04\r\nETag: \"0x0000000000000001\"\r\nLast-Modified: Thu, 01 Jan 1970 00:00:00 GMT\r\nContent-Length: 0\r\n\r\n",
     )?;
     expect(
         alloc,
         &shown(alloc)?,
         3,
         true,
-        b"before HTTP/1.1 200 OK\r\nDate: Thu, 01 Jan 1970 00:00:00 GMT\r\nx-ms-request-id: 0000000000000003\r\nx-ms-version: 2020-02-10\r\nETag: \"0x0000000000000002\"\r\nLast-Modified: Thu, 01 Jan 1970 00:00:00 GMT\r\nx-ms-resource-type: directory\r\nx-ms-owner: $superuser\r\nx-ms-group: $superuser\r\nx-ms-permissions: rwxr-x---\r\nx-ms-lease-state: available\r\nx-ms-lease-status: unlocked\r\nContent-Length: 0\r\n\r\n",
+        b"before HTTP/1.1 200 OK\r\nDate: Thu, 01 Jan 1970 00:00:00 GMT\r\nx-ms-request-id: 0000000000000003\r\nx-ms-version: 2020-08-04\r\nETag: \"0x0000000000000002\"\r\nLast-Modified: Thu, 01 Jan 1970 00:00:00 GMT\r\nx-ms-resource-type: directory\r\nx-ms-owner: $superuser\r\nx-ms-group: $superuser\r\nx-ms-permissions: rwxr-x---\r\nx-ms-lease-state: available\r\nx-ms-lease-status: unlocked\r\nContent-Length: 0\r\n\r\n",
     )?;
     expect(
         alloc,
         &part(alloc)?,
         11,
         false,
-        b"before HTTP/1.1 206 Partial Content\r\nDate: Thu, 01 Jan 1970 00:00:00 GMT\r\nx-ms-request-id: 000000000000000B\r\nx-ms-version: 2020-02-10\r\nETag: \"0x000000000000000A\"\r\nLast-Modified: Sun, 06 Nov 1994 08:49:37 GMT\r\nAccept-Ranges: bytes\r\nContent-Range: bytes 5-9/10\r\nContent-Type: application/octet-stream\r\nx-ms-resource-type: file\r\nx-ms-properties: k=dg==\r\nContent-Length: 5\r\n\r\nworld",
+        b"before HTTP/1.1 206 Partial Content\r\nDate: Thu, 01 Jan 1970 00:00:00 GMT\r\nx-ms-request-id: 000000000000000B\r\nx-ms-version: 2020-08-04\r\nETag: \"0x000000000000000A\"\r\nLast-Modified: Sun, 06 Nov 1994 08:49:37 GMT\r\nAccept-Ranges: bytes\r\nContent-Range: bytes 5-9/10\r\nContent-Type: application/octet-stream\r\nx-ms-resource-type: file\r\nx-ms-properties: k=dg==\r\nContent-Length: 5\r\n\r\nworld",
     )
 }
 
@@ -167,35 +167,35 @@ fn refusals_are_spelled(rt: HostRuntime) -> Result<(), Fail> {
         &refusal(alloc, Code::FilesystemAlreadyExists, 409),
         2,
         false,
-        b"before HTTP/1.1 409 Conflict\r\nDate: Thu, 01 Jan 1970 00:00:00 GMT\r\nx-ms-request-id: 0000000000000002\r\nx-ms-version: 2020-02-10\r\nContent-Type: application/json\r\nx-ms-error-code: FilesystemAlreadyExists\r\nContent-Length: 87\r\n\r\n{\"error\":{\"code\":\"FilesystemAlreadyExists\",\"message\":\"The filesystem already exists.\"}}",
+        b"before HTTP/1.1 409 Conflict\r\nDate: Thu, 01 Jan 1970 00:00:00 GMT\r\nx-ms-request-id: 0000000000000002\r\nx-ms-version: 2020-08-04\r\nContent-Type: application/json\r\nx-ms-error-code: FilesystemAlreadyExists\r\nContent-Length: 87\r\n\r\n{\"error\":{\"code\":\"FilesystemAlreadyExists\",\"message\":\"The filesystem already exists.\"}}",
     )?;
     expect(
         alloc,
         &refusal(alloc, Code::InvalidResourceName, 400),
         3,
         false,
-        b"before HTTP/1.1 400 Bad Request\r\nDate: Thu, 01 Jan 1970 00:00:00 GMT\r\nx-ms-request-id: 0000000000000003\r\nx-ms-version: 2020-02-10\r\nContent-Type: application/json\r\nx-ms-error-code: InvalidResourceName\r\nContent-Length: 84\r\n\r\n{\"error\":{\"code\":\"InvalidResourceName\",\"message\":\"The resource name is not valid.\"}}",
+        b"before HTTP/1.1 400 Bad Request\r\nDate: Thu, 01 Jan 1970 00:00:00 GMT\r\nx-ms-request-id: 0000000000000003\r\nx-ms-version: 2020-08-04\r\nContent-Type: application/json\r\nx-ms-error-code: InvalidResourceName\r\nContent-Length: 84\r\n\r\n{\"error\":{\"code\":\"InvalidResourceName\",\"message\":\"The resource name is not valid.\"}}",
     )?;
     expect(
         alloc,
         &refusal(alloc, Code::PathNotFound, 404),
         6,
         true,
-        b"before HTTP/1.1 404 Not Found\r\nDate: Thu, 01 Jan 1970 00:00:00 GMT\r\nx-ms-request-id: 0000000000000006\r\nx-ms-version: 2020-02-10\r\nx-ms-error-code: PathNotFound\r\nContent-Length: 0\r\n\r\n",
+        b"before HTTP/1.1 404 Not Found\r\nDate: Thu, 01 Jan 1970 00:00:00 GMT\r\nx-ms-request-id: 0000000000000006\r\nx-ms-version: 2020-08-04\r\nx-ms-error-code: PathNotFound\r\nContent-Length: 0\r\n\r\n",
     )?;
     expect(
         alloc,
         &refusal(alloc, Code::ConditionNotMet, 304),
         0xAB,
         false,
-        b"before HTTP/1.1 304 Not Modified\r\nDate: Thu, 01 Jan 1970 00:00:00 GMT\r\nx-ms-request-id: 00000000000000AB\r\nx-ms-version: 2020-02-10\r\nx-ms-error-code: ConditionNotMet\r\n\r\n",
+        b"before HTTP/1.1 304 Not Modified\r\nDate: Thu, 01 Jan 1970 00:00:00 GMT\r\nx-ms-request-id: 00000000000000AB\r\nx-ms-version: 2020-08-04\r\nx-ms-error-code: ConditionNotMet\r\n\r\n",
     )?;
     expect(
         alloc,
         &denial(alloc)?,
         5,
         true,
-        b"before HTTP/1.1 403 Forbidden\r\nDate: Thu, 01 Jan 1970 00:00:00 GMT\r\nx-ms-request-id: 0000000000000005\r\nx-ms-version: 2020-02-10\r\nConnection: close\r\nx-ms-error-code: AuthorizationPermissionMismatch\r\nx-ms-denied-rule: named-user\r\nx-ms-denied-path: /data/f\r\nx-ms-denied-want: -w-\r\nx-ms-denied-have: r--\r\nContent-Length: 0\r\n\r\n",
+        b"before HTTP/1.1 403 Forbidden\r\nDate: Thu, 01 Jan 1970 00:00:00 GMT\r\nx-ms-request-id: 0000000000000005\r\nx-ms-version: 2020-08-04\r\nConnection: close\r\nx-ms-error-code: AuthorizationPermissionMismatch\r\nx-ms-denied-rule: named-user\r\nx-ms-denied-path: /data/f\r\nx-ms-denied-want: -w-\r\nx-ms-denied-have: r--\r\nContent-Length: 0\r\n\r\n",
     )
 }
 
@@ -214,11 +214,11 @@ fn last_replies_are_spelled(rt: HostRuntime) -> Result<(), Fail> {
     expect_last(
         alloc,
         Last::Bad(BadHttp::NotBuilt),
-        b"HTTP/1.1 400 Bad Request\r\nx-ms-request-id: 0000000000000000\r\nx-ms-version: 2020-02-10\r\nConnection: close\r\nx-ms-error-code: InvalidInput\r\nContent-Length: 0\r\n\r\n",
+        b"HTTP/1.1 400 Bad Request\r\nx-ms-request-id: 0000000000000000\r\nx-ms-version: 2020-08-04\r\nConnection: close\r\nx-ms-error-code: InvalidInput\r\nContent-Length: 0\r\n\r\n",
     )?;
     expect_last(
         alloc,
         Last::Busy,
-        b"HTTP/1.1 503 Service Unavailable\r\nx-ms-request-id: 0000000000000000\r\nx-ms-version: 2020-02-10\r\nConnection: close\r\nx-ms-error-code: ServerBusy\r\nContent-Length: 0\r\n\r\n",
+        b"HTTP/1.1 503 Service Unavailable\r\nx-ms-request-id: 0000000000000000\r\nx-ms-version: 2020-08-04\r\nConnection: close\r\nx-ms-error-code: ServerBusy\r\nContent-Length: 0\r\n\r\n",
     )
 }

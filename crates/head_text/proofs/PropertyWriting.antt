@@ -205,7 +205,3 @@ text_more pairs i pair text parted new name value within is so_far cut end own_n
     ∙ joined_more front (property_of pair)
     ∙ ap (λ ps. join_with_byte 44 (map property_text ps)) (sym (map-append property_of (take i pairs) (pair ∷ [])))
     ∙ ap (λ ps. join_with_byte 44 (map property_text (map property_of ps))) (sym (take_more pairs i pair within ∙ ap (λ q. take i pairs ++ q ∷ []) (sym is)))
-
-pub whatever : {X E P : Type 0} (r : Result X E) → P → OnOk r P
-whatever (Ok x) p = p
-whatever (Err e) p = tt

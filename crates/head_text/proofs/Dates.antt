@@ -6,7 +6,7 @@ use Rattle.httpdate.specs.declared.date.HttpDate.{HttpDate}
 use Rattle.httpdate.specs.Calendar.{days_of_years, days_of_months, days_in_year, days_in_month, days_from_civil, weekday}
 use Rattle.std.specs.Option.{option_and_then}
 use Rattle.httpdate.specs.Date.{unix_secs, date_text, parse_secs, valid_secs}
-use Rattle.httpdate.specs.Valid.{IsValid, is_valid, parts_secs}
+use Rattle.httpdate.specs.Valid.{IsValid, parts_secs}
 use Rattle.httpdate.proofs.FormatLemmas.{parse_complete}
 use Rattle.httpdate.proofs.CalendarLemmas.{days_of_years_closed, days_of_months_all}
 use Rattle.httpdate.proofs.ValidLemmas.{is_valid_complete}

@@ -1,7 +1,7 @@
 -- Sixteen hex digits write their number, and the entity tag of a number is read as it.
-use Rattle.std.proofs.Common.{codes, ◌≡◌, ℕ, ◌+◌, ◌*◌, ◌/◌, ◌%◌, ◌<◌, ◌^◌, ◌==◌, true, false, cond, bytes_eq, List, [], ◌∷◌, ◌++◌, length, Some, refl, sym, ap, inl, inr, ◌∙◌, arith}
+use Rattle.std.proofs.Common.{codes, ◌≡◌, ℕ, ◌+◌, ◌*◌, ◌/◌, ◌%◌, ◌<◌, ◌^◌, true, false, cond, bytes_eq, List, [], ◌∷◌, length, Some, refl, ap, inl, inr, ◌∙◌, arith}
 use Rattle.std.specs.Char.{is_ascii_hexdigit, digit_value}
-use Rattle.std.specs.List.{list_all, filter_map, slice_split, cons_option, AllByRecursion}
+use Rattle.std.specs.List.{list_all, filter_map, slice_split, cons_option}
 use Rattle.std.specs.Str.Parse.{digits_value}
 use Rattle.std.proofs.lemmas.Bool.Decides.{nat_tests}
 use Rattle.std.proofs.lemmas.List.Elements.{All-from_recursion}

@@ -1,14 +1,17 @@
 -- What a flush to the end of a piece meets, told from what is there without the piece; and an append with flush.
-use Rattle.std.proofs.Common.{◌≡◌, ◌⊎◌, inl, inr, ℕ, zero, suc, ◌+◌, ◌<◌, ◌≤◌, true, false, cond, List, [], ◌∷◌, ◌++◌, length, get_or, drop, Option, Some, None, Result, Ok, Err, refl, sym, ap, subst, ◌∙◌, arith, append_assoc}
-use Rattle.std.specs.Prelude.{nat_lt, nat_le, ◌↔◌}
+use Rattle.std.proofs.Common.{◌≡◌, ◌⊎◌, inl, inr, ℕ, zero, suc, ◌+◌, ◌<◌, ◌≤◌, Bool, cond, List, [], ◌∷◌, ◌++◌, length, get_or, drop, Option, Some, None, Result, Ok, Err, refl, sym, ap, subst, ◌∙◌, arith, append_assoc}
+use Rattle.std.specs.Prelude.{nat_lt, ◌↔◌, slice_range}
+use Rattle.std.specs.List.{AllByRecursion}
+use Rattle.std.proofs.lemmas.List.{append-nil}
 use Rattle.file_data.specs.declared.fault.DataFault.{DataFault}
 use Rattle.file_data.specs.declared.fault.DataFault.TheVariants.{BelowLength, Gap, Overlap, WrongPosition, TooLarge}
-use Rattle.file_data.specs.Staging.{pieces_below, pieces_from, pieces_above, with_piece, Ascends, Covers, first_trouble}
+use Rattle.file_data.specs.Staging.{pieces_below, pieces_from, pieces_above, bytes_of, with_piece, Ascends, Covers, first_trouble}
 use Rattle.file_data.specs.Troubles.{BeginsAbove, HasGap, HasOverlap, EndsAbove, met_by_piece}
-use Rattle.file_data.specs.FileRecord.{FileRecord, stage_answer, staged_with, flush_answer, end_at, CanAppendFlush, and_then, append_flush_answer}
-use Rattle.file_data.proofs.StagingLemmas.{Pieces, lt_true, lt_false, le_true, le_false, Ascends-filter, begins_from, first_of}
-use Rattle.file_data.proofs.TroubleLemmas.{either_side, inj, ends_gap, ends_well, goes_gap, goes_overlap, goes_on, past, never_below, never_large, none_covers, gap_is, overlap_is, wrong_is, flush_allowed}
-use Rattle.file_data.proofs.OrderLemmas.{below_with_piece}
+use Rattle.file_data.specs.FileRecord.{FileRecord, stage_answer, staged_with, flush_answer, end_at, CanAppendFlush, and_then, append_flush_answer, append_flushed}
+use Rattle.file_data.proofs.StagingLemmas.{Pieces, lt_true, lt_false, le_true, le_false, Ascends-filter, begins_from, first_of, below_passes, bytes-append, on_the_way}
+use Rattle.file_data.proofs.TroubleLemmas.{either_side, ends_well, goes_gap, goes_overlap, goes_on, past, never_below, never_large, none_covers, gap_is, overlap_is, wrong_is, flush_allowed, no_trouble}
+use Rattle.file_data.proofs.FileLemmas.{new_length}
+use Rattle.file_data.proofs.OrderLemmas.{below_with_piece, length_new, part_behind}
 
 -- behind a gap or an overlap nothing counts
 gap_stays : (front back more : Pieces) (n q r at : ℕ) → Covers front n at → BeginsAbove back at q → q ≤ r
@@ -131,3 +134,50 @@ either_refuses (Err y) b x = ((λ e. inl e), (λ h. elim h [ inl k ↦ k | inr k
 pub append_flush_refused : (f : FileRecord) (q : ℕ) (bs : List ℕ) (x : DataFault) → ((append_flush_answer f q bs ≡ Err x)
     ↔ ((stage_answer f q bs ≡ Err x) ⊎ ((stage_answer f q bs ≡ Ok tt) × (flush_answer (staged_with f q bs) (end_at q bs) ≡ Err x))))
 append_flush_refused f q bs x = either_refuses (stage_answer f q bs) (flush_answer (staged_with f q bs) (end_at q bs)) x
+
+-- an allowed append with flush appends what is below the piece, and then the piece
+past_piece : (ps more : Pieces) (n x q : ℕ) (bs : List ℕ) → x ≤ q → first_trouble (ps ++ (x, bs) ∷ more) n q ≡ None → first_trouble ps n x ≡ None
+past_piece ps more n x q bs l e = told (first_trouble ps n x) refl
+  where
+    told : (r : Option DataFault) → first_trouble ps n x ≡ r → first_trouble ps n x ≡ None
+    told None h = h
+    told (Some fault) h = let k : first_trouble (ps ++ (x, bs) ∷ more) n q ≡ Some (met_by_piece x fault) = over_fault ps more n x q bs fault l h in absurd (cc)
+
+none_more : (more : Pieces) (e : ℕ) → AllByRecursion (λ p. p.0 < e) more → first_trouble more e e ≡ None → more ≡ []
+none_more [] e h t = refl
+none_more (p ∷ more) e h t =
+    let s : e ≡ p.0 = (on_the_way p more e e t).0 in
+    let l : p.0 < e = h.0 in
+    absurd (omega arith)
+
+appended : (f : FileRecord) (q : ℕ) (bs : List ℕ) (retain : Bool) → CanAppendFlush f q bs → 0 < length bs
+    → ((append_flushed f q bs retain).committed ≡ (f.committed ++ bytes_of (pieces_below f.staged q)) ++ bs)
+    × (length (f.committed ++ bytes_of (pieces_below f.staged q)) ≡ q)
+appended f q bs retain may filled =
+    let front = pieces_below f.staged q in
+    let more = pieces_below (pieces_above f.staged q) (q + length bs) in
+    let parted : pieces_below (with_piece f.staged q bs) (q + length bs) ≡ front ++ (q, bs) ∷ more = below_with_piece f.staged q (q + length bs) bs (omega arith) in
+    let none : first_trouble (front ++ (q, bs) ∷ more) (length f.committed) (q + length bs) ≡ None =
+    ap (λ (y : Pieces). first_trouble y (length f.committed) (q + length bs)) (sym parted)
+    ∙ (no_trouble (pieces_below (with_piece f.staged q bs) (q + length bs)) (length f.committed) (q + length bs)).1 may.1.1 in
+    let before : first_trouble front (length f.committed) q ≡ None = past_piece front more (length f.committed) q (q + length bs) bs (omega arith) none in
+    let last : more ≡ [] = none_more more (q + length bs) (below_passes (pieces_above f.staged q) (q + length bs))
+    (sym (over_none front more (length f.committed) q (q + length bs) bs before) ∙ none) in (
+      ap (λ (y : Pieces). f.committed ++ bytes_of y) (parted ∙ ap (λ (m : Pieces). front ++ (q, bs) ∷ m) last)
+          ∙ ap (λ (y : List ℕ). f.committed ++ y) (bytes-append front ((q, bs) ∷ []) ∙ ap (λ (y : List ℕ). bytes_of front ++ y) (append-nil bs))
+          ∙ sym (append_assoc f.committed (bytes_of front) bs),
+      new_length f.committed f.staged q before,
+    )
+
+pub appended_length : (f : FileRecord) (q : ℕ) (bs : List ℕ) (retain : Bool) → CanAppendFlush f q bs → length (append_flushed f q bs retain).committed ≡ end_at q bs
+appended_length f q bs retain may = length_new (staged_with f q bs) (end_at q bs) retain may.1
+
+pub appended_last : (f : FileRecord) (q : ℕ) (bs : List ℕ) (retain : Bool) → CanAppendFlush f q bs → 0 < length bs
+    → slice_range (append_flushed f q bs retain).committed q (end_at q bs) ≡ bs
+appended_last f q bs retain may filled =
+    let a = appended f q bs retain may filled in
+    let before = f.committed ++ bytes_of (pieces_below f.staged q) in
+    let long : length before ≡ q = a.1 in
+    ap (λ (zs : List ℕ). slice_range zs q (q + length bs)) a.0
+    ∙ ap (λ (n : ℕ). slice_range (before ++ bs) n (q + length bs)) (sym long)
+    ∙ part_behind before bs (q + length bs) (omega arith)

@@ -1,18 +1,17 @@
 -- Extents that lie end to end: their order, what a flush adds to them, and what they have of a range.
-use Rattle.std.proofs.Common.{◌≡◌, ◌⊎◌, inl, inr, ℕ, zero, suc, ◌+◌, ◌-◌, ◌<◌, ◌≤◌, min, Bool, cond, reverse, List, [], ◌∷◌, ◌++◌, length, take, drop, None, refl, sym, ap, subst, ◌∙◌, arith, length-append, length-take, length-drop, append_assoc, take-append-drop}
-use Rattle.std.specs.Prelude.{nat_lt, slice_range, All}
+use Rattle.std.proofs.Common.{◌≡◌, ℕ, zero, suc, ◌+◌, ◌-◌, ◌<◌, ◌≤◌, min, Bool, true, cond, List, [], ◌∷◌, ◌++◌, length, take, drop, None, refl, sym, ap, subst, ◌∙◌, arith, length-take, length-drop, append_assoc, take-append-drop}
+use Rattle.std.specs.Prelude.{nat_lt, slice_range}
 use Rattle.std.specs.List.{AllByRecursion}
 use Rattle.std.proofs.Math.Nat.{sub-zero}
-use Rattle.std.proofs.lemmas.List.{append-nil, take_all, reverse-append}
+use Rattle.std.proofs.lemmas.List.{append-nil, take_all}
 use Rattle.std.proofs.Math.Seq.{drop-append_seam, take-append_seam}
-use Rattle.std.proofs.lemmas.List.Concat.{flat_map-append}
 use Rattle.std.proofs.lemmas.List.Elements.{All-append, All-filter, All-weaker, recursion_from_All}
 use Rattle.file_data.specs.Staging.{end_of, pieces_below, pieces_from, bytes_of, Ascends, Covers, first_trouble}
-use Rattle.file_data.specs.FileRecord.{IsStagedPiece, IsFile, AreExtents}
+use Rattle.file_data.specs.FileRecord.{FileRecord, IsStagedPiece, IsFile, AreExtents, CanFlush, flushed}
 use Rattle.file_data.specs.Extents.{part_of, parts_of}
-use Rattle.file_data.proofs.StagingLemmas.{Pieces, weaker, bytes-append, below_passes, from_passes, Ascends-drop}
+use Rattle.file_data.proofs.StagingLemmas.{Pieces, weaker, bytes-append, below_passes, from_passes}
 use Rattle.file_data.proofs.FileLemmas.{new_length, after_flush}
-use Rattle.file_data.proofs.TroubleLemmas.{either_side, inj, covers_more, covers_first, none_covers}
+use Rattle.file_data.proofs.TroubleLemmas.{inj, covers_more, covers_first, none_covers, no_trouble}
 
 -- pieces that aren't empty and lie end to end ascend
 starts_above : (ps : Pieces) (n q : ℕ) → AllByRecursion (λ p. 0 < length p.1) ps → Covers ps n q → AllByRecursion (λ p. n ≤ p.0) ps × Ascends ps
@@ -34,22 +33,6 @@ covers_join [] back n at q c d = subst (λ s. Covers back s q) (inj at n [] [] c
 covers_join (p ∷ front) back n at q c d =
     let h : (p.0 ≡ n) × Covers front (n + length p.1) at = covers_first p front n at c in
     covers_more p (front ++ back) n q h.0 (covers_join front back (n + length p.1) at q h.1 d)
-
--- what an allowed flush adds are extents again
-pub flush_extends : (extents staged : Pieces) (q : ℕ) → IsFile (bytes_of extents) staged → AreExtents (bytes_of extents) extents
-    → first_trouble (pieces_below staged q) (length (bytes_of extents)) q ≡ None
-    → AreExtents (bytes_of (extents ++ pieces_below staged q)) (extents ++ pieces_below staged q)
-flush_extends extents staged q f h e =
-    let long : length (bytes_of (extents ++ pieces_below staged q)) ≡ q =
-    ap length (bytes-append extents (pieces_below staged q)) ∙ new_length (bytes_of extents) staged q e in
-    record {
-      filled = All-append (λ (p : ℕ × List ℕ). 0 < length p.1) extents (pieces_below staged q) h.filled
-          (All-filter (λ p. nat_lt p.0 q) (λ (p : ℕ × List ℕ). 0 < length p.1) staged
-          (All-weaker (IsStagedPiece (length (bytes_of extents))) (λ (p : ℕ × List ℕ). 0 < length p.1) (λ p k. k.filled) staged f.pieces));
-      cover = rw long (covers_join extents (pieces_below staged q) 0 (length (bytes_of extents)) q h.cover
-          (none_covers (pieces_below staged q) (length (bytes_of extents)) q e));
-      bytes = refl;
-    }
 
 -- lists and ranges
 take_none : (n : ℕ) → ◌≡◌ {A = List ℕ} (take n []) []
@@ -89,24 +72,6 @@ range_below xs a b l = let e : b - a ≡ 0 = omega arith in rw e refl
 
 pub range_length : (xs : List ℕ) (a b : ℕ) → length (slice_range xs a b) ≤ b - a
 range_length xs a b = let e : length (slice_range xs a b) ≡ min (b - a) (length (drop a xs)) = length-take (b - a) (drop a xs) in omega arith
-
-either_or : (a b : ℕ) → (a ≤ b) ⊎ (b ≤ a)
-either_or a b = elim (either_side a b) [ inl l ↦ inl (omega arith) | inr l ↦ inr l ]
-
--- a range that is cut to the list
-pub range_cut : (xs : List ℕ) (a b n : ℕ) → n ≡ length xs → slice_range xs (min a n) (min b n) ≡ slice_range xs a b
-range_cut xs a b n e = elim (either_or a n) [
-  | inl l ↦
-      let s : min a n ≡ a = omega arith in
-      ap (λ (k : ℕ). slice_range xs k (min b n)) s ∙ elim (either_or b n) [
-        | inl m ↦ let t : min b n ≡ b = omega arith in ap (λ (k : ℕ). slice_range xs a k) t
-        | inr m ↦
-            let t : min b n ≡ n = omega arith in
-            let long : length (drop a xs) ≡ length xs - a = length-drop a xs in
-            ap (λ (k : ℕ). slice_range xs a k) t ∙ take_all (n - a) (drop a xs) (omega arith) ∙ sym (take_all (b - a) (drop a xs) (omega arith))
-      ]
-  | inr l ↦ range_above xs (min a n) (min b n) (omega arith) ∙ sym (range_above xs a b (omega arith))
-]
 
 -- what pieces that lie end to end from n have of a range is that range of their bytes
 parts_are : (ps : Pieces) (n q from to : ℕ) → Covers ps n q → slice_range (bytes_of ps) (from - n) (to - n) ≡ parts_of from to ps
@@ -227,7 +192,25 @@ parted_at (x ∷ xs) ys (a ∷ us) vs n e l =
     let s : x ≡ a = cc in
     (ap (λ (zs : Pieces). x ∷ zs) r.0 ∙ ap (λ (y : ℕ × List ℕ). y ∷ (us ++ take n vs)) s, r.1)
 
--- what is taken from the end of a list that is turned round goes behind the others
-pub moved_last : (xs ys zs : Pieces) (p : ℕ × List ℕ) → zs ≡ ys ++ p ∷ [] → (xs ++ p ∷ []) ++ reverse ys ≡ xs ++ reverse zs
-moved_last xs ys zs p e =
-    append_assoc xs (p ∷ []) (reverse ys) ∙ ap (λ (r : Pieces). xs ++ r) (sym (ap reverse e ∙ reverse-append ys (p ∷ [])))
+-- extents stay extents over an allowed flush
+pub extents_stay : (f : FileRecord) (q : ℕ) (retain : Bool) → IsFile f.committed f.staged → AreExtents f.committed f.extents → CanFlush f q
+    → AreExtents (flushed f q retain).committed (flushed f q retain).extents
+extents_stay f q retain file h may =
+    let none : first_trouble (pieces_below f.staged q) (length f.committed) q ≡ None = (no_trouble (pieces_below f.staged q) (length f.committed) q).1 may.1 in
+    let long : length (f.committed ++ bytes_of (pieces_below f.staged q)) ≡ q = new_length f.committed f.staged q none in
+    record {
+      filled = All-append (λ (p : ℕ × List ℕ). 0 < length p.1) f.extents (pieces_below f.staged q) h.filled
+          (All-filter (λ p. nat_lt p.0 q) (λ (p : ℕ × List ℕ). 0 < length p.1) f.staged
+          (All-weaker (IsStagedPiece (length f.committed)) (λ (p : ℕ × List ℕ). 0 < length p.1) (λ p k. k.filled) f.staged file.pieces));
+      cover = rw long (covers_join f.extents (pieces_below f.staged q) 0 (length f.committed) q h.cover may.1);
+      bytes = ap (λ (bs : List ℕ). bs ++ bytes_of (pieces_below f.staged q)) h.bytes ∙ sym (bytes-append f.extents (pieces_below f.staged q));
+    }
+
+-- the same of what a flush makes of the lists
+pub flush_extends : (extents staged : Pieces) (q : ℕ) → IsFile (bytes_of extents) staged → AreExtents (bytes_of extents) extents
+    → first_trouble (pieces_below staged q) (length (bytes_of extents)) q ≡ None → length (bytes_of extents) ≤ q
+    → AreExtents (bytes_of (extents ++ pieces_below staged q)) (extents ++ pieces_below staged q)
+flush_extends extents staged q f h e l =
+    let before : FileRecord = record { committed = bytes_of extents; extents = extents; staged = staged; stage_room = 0; flush_room = 0 } in
+    subst (λ (bs : List ℕ). AreExtents bs (extents ++ pieces_below staged q)) (sym (bytes-append extents (pieces_below staged q)))
+    (extents_stay before q true f h (l, none_covers (pieces_below staged q) (length (bytes_of extents)) q e))

@@ -187,7 +187,7 @@ flushed_here_dropping f e = ap (λ (ps : Pieces). f.committed ++ bytes_of ps) e 
 pub flushed_here_extents : (f : FileRecord) → pieces_below f.staged (length f.committed) ≡ [] → (flushed f (length f.committed) false).extents ≡ f.extents
 flushed_here_extents f e = ap (λ (ps : Pieces). f.extents ++ ps) e ∙ append-nil f.extents
 
-part_behind : (old new : List ℕ) (q : ℕ) → length old + length new ≡ q → slice_range (old ++ new) (length old) q ≡ new
+pub part_behind : (old new : List ℕ) (q : ℕ) → length old + length new ≡ q → slice_range (old ++ new) (length old) q ≡ new
 part_behind old new q e =
     ap (λ (r : List ℕ). take (q - length old) r) (drop-append_seam old new) ∙ take_all (q - length old) new (omega arith)
 

@@ -1,4 +1,4 @@
-use Rattle.std.proofs.Common.{ℕ, ◌≡◌, ◌++◌, ◌-◌, List, length, take, drop, ap, sym, subst, ◌∙◌, arith}
+use Rattle.std.proofs.Common.{ℕ, ◌++◌, ◌-◌, List, length, take, drop, ap, sym, subst, ◌∙◌, arith}
 use Rattle.file_data.specs.Staging.{bytes_of, Ascends}
 use Rattle.file_data.proofs.StagingLemmas.{Ascends-drop}
 use Rattle.file_data.proofs.ExtentLemmas.{extents_ascend, rest_is, range_of_rest}

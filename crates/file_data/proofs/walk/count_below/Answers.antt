@@ -1,4 +1,4 @@
-use Rattle.std.proofs.Common.{ℕ, ◌≡◌, List, take, drop, rules, of_calls}
+use Rattle.std.proofs.Common.{ℕ, List, rules, of_calls}
 use Rattle.std.specs.Prelude.{nat_lt}
 use Rattle.std.proofs.lemmas.Fn.{always_returns_same}
 use Rattle.file_data.proofs.StagingLemmas.{parts_by, starts_parted}

@@ -17,15 +17,15 @@ invariant_of-self c =
     let back : drop c.count_below-count.result staged ≡ pieces_from staged c.args.position =
     ap (λ (ps : List (ℕ × List ℕ)). drop c.count_below-count.result ps) (sym c.as_slice.ensures.value)
     ∙ c.count_below-count.ensures.back ∙ ap (λ (ps : List (ℕ × List ℕ)). pieces_from ps c.args.position) c.as_slice.ensures.value in
-    let none : first_trouble (pieces_below staged c.args.position) (length (bytes_of extents)) c.args.position ≡ None =
-    (allowed_as (record_of c.self.inside) c.args.self.now c.self.view_is c.args.position c.in_ok-can_flush.ensures).1 in
+    let may = allowed_as (record_of c.self.inside) c.args.self.now c.self.view_is c.args.position c.in_ok-can_flush.ensures in
+    let none : first_trouble (pieces_below staged c.args.position) (length (bytes_of extents)) c.args.position ≡ None = may.1 in
     let added : c.move_pieces.new.extents.items ≡ extents ++ pieces_below staged c.args.position =
     c.move_pieces.ensures.extents ∙ ap (λ (ps : List (ℕ × List ℕ)). extents ++ ps) front in
     let left : c.clear_unless.new.pieces.items ≡ cond c.args.retain (pieces_from staged c.args.position) [] =
     c.clear_unless.ensures.items ∙ ap (λ (ps : List (ℕ × List ℕ)). cond c.args.retain ps []) (c.move_pieces.ensures.staged ∙ back) in
     record {
       file = rw (added, left) (flush_leaves extents staged c.args.position c.args.retain c.self.invariant.file none);
-      extents = rw added (flush_extends extents staged c.args.position c.self.invariant.file c.self.invariant.extents none);
+      extents = rw added (flush_extends extents staged c.args.position c.self.invariant.file c.self.invariant.extents none may.0);
       len = rw added (flush_ends extents staged c.args.position none);
       room = omega arith;
       ready = λ h. absurd (omega arith);

@@ -1,5 +1,5 @@
-use Rattle.std.proofs.Common.{◌≡◌, ◌≤◌, ◌+◌, length, ap, sym, arith}
-use Rattle.file_data.specs.FileRecord.{IsFile, file_max}
+use Rattle.std.proofs.Common.{length, ap, sym, arith}
+use Rattle.file_data.specs.FileRecord.{IsFile}
 use Rattle.file_data.specs.FileInside.{record_of}
 use Rattle.file_data.specs.Staging.{bytes_of, with_piece}
 use Rattle.file_data.proofs.FileLemmas.{stage_keeps}

@@ -20,6 +20,7 @@
 #![tactic(auto)]
 
 mod data;
+mod extents;
 mod fault;
 pub mod laws;
 mod piece;

@@ -1,9 +1,9 @@
 -- Requests as they stand in a stream (RFC 9112, sections 2 to 6): which are complete, and how a stream parts into them.
-use Rattle.std.specs.Prelude.{◌≡◌, ℕ, ◌≤◌, Bool, List, [], ◌∷◌, ◌++◌, length, map, filter, All, codes}
+use Rattle.std.specs.Prelude.{◌≡◌, ℕ, ◌≤◌, List, [], ◌∷◌, ◌++◌, length, map, filter, All, codes}
 use Rattle.std.specs.List.{flat_map}
-use Rattle.std.specs.Str.{str_eq_ignore_ascii_case}
 use Rattle.httparse.specs.Grammar.{RequestHead, IsRequestHead, print_request}
 use Rattle.httparse.specs.Spans.{name_and_value}
+use Rattle.head_text.specs.Headers.{is_named}
 use Rattle.http_front.specs.declared.limits.TheConstants.{HEAD_MOST, HEADERS_MOST}
 use Rattle.http_front.specs.declared.raw.Raw.{Raw}
 
@@ -19,10 +19,6 @@ print_text t = print_request t.head ++ t.body
 -- the headers in their order: the name, and the value without the white space around it
 abbrev pub headers_of : RequestText → List (List ℕ × List ℕ)
 headers_of t = map name_and_value t.head.fields
-
--- the header has this name, which is written in lower case here and in any case there
-abbrev pub is_named : List ℕ → List ℕ × List ℕ → Bool
-is_named name header = str_eq_ignore_ascii_case header.0 name
 
 -- the values of all headers of this name
 abbrev pub values_of : List ℕ → List (List ℕ × List ℕ) → List (List ℕ)

@@ -8,7 +8,7 @@ use Rattle.std.proofs.lemmas.Slice.Eq.{bytes_eq-Decides}
 use Rattle.std.proofs.lemmas.List.Folds.{find-append}
 use Rattle.std.specs.Option.{option_or}
 use Rattle.http_front.specs.declared.raw.Raw.{Raw}
-use Rattle.http_front.specs.Requests.{is_named}
+use Rattle.head_text.specs.Headers.{is_named}
 use Rattle.namespace_model.specs.declared.caller.Caller.{Caller}
 use Rattle.namespace_model.specs.declared.code.Code.{Code}
 use Rattle.namespace_model.specs.declared.code.Code.TheVariants.{UnsupportedContentEncoding}
@@ -18,7 +18,7 @@ use Rattle.op_decode.specs.declared.operation.Operation.{Operation}
 use Rattle.op_decode.specs.Callers.{caller_of}
 use Rattle.op_decode.specs.Connections.{closes}
 use Rattle.op_decode.specs.Decoded.{asked, asked_after_caller, asked_after_target, asked_by, decoded, has_other_encoding, op_for, op_of, refused}
-use Rattle.op_decode.specs.Headers.{first_header}
+use Rattle.head_text.specs.Headers.{first_header}
 use Rattle.op_decode.specs.Laws.{known_names, lowered, with_headers}
 use Rattle.op_decode.specs.Methods.{method_of}
 use Rattle.op_decode.specs.Operations.{operation_of}

@@ -1,12 +1,9 @@
 -- The headers of a request by their names, which have no case (RFC 9110, section 5.1). Of a repeated header the first counts.
-use Rattle.std.specs.Prelude.{ℕ, Bool, false, not, List, Option, None, Some, is_some, option_map, find, bytes_eq}
+use Rattle.std.specs.Prelude.{ℕ, Bool, false, not, List, Option, None, Some, is_some, bytes_eq}
+use Rattle.head_text.specs.Headers.{first_header}
 use Rattle.http_front.specs.declared.raw.Raw.{Raw}
-use Rattle.http_front.specs.Requests.{is_named}
 
 -- the value of the first header of this name, in any case
-unfoldable pub first_header : List ℕ → List (List ℕ × List ℕ) → Option (List ℕ)
-first_header name headers = option_map (λ (header : List ℕ × List ℕ). header.1) (find (is_named name) headers)
-
 abbrev pub header : List ℕ → Raw → Option (List ℕ)
 header name raw = first_header name raw.headers
 

@@ -1,28 +1,14 @@
-ghost use Rattle.std.specs.Prelude.{◌≡◌, map};
+ghost use Rattle.std.specs.Prelude.{◌≡◌};
 ghost use Rattle.std.specs.Option.{option_copied};
-ghost use Rattle.head_text.specs.Headers.{header_of};
-ghost use Rattle.op_decode.specs.Headers.{first_header, has_header, header, is_other_text, is_text};
+ghost use Rattle.op_decode.specs.Headers.{has_header, header, is_other_text, is_text};
 
-use head_text::is_same_name;
 use http_front::Raw;
 
 /// The value of the first header of this name, in any case (RFC 9110, section 5.1).
 pub fn header<'a>(raw: &'a Raw, name: &[u8]) -> Option<&'a [u8]>
     ensures { option_copied result ≡ header name.now raw.now }
 {
-    first_header(raw.headers.pairs(), name)
-}
-
-#[tactic(auto, unfolding(crate::specs::Headers::first_header))]
-fn first_header<'a>(headers: &'a [(Vec<u8>, Vec<u8>)], name: &[u8]) -> Option<&'a [u8]>
-    ensures { option_copied result ≡ first_header name.now (map header_of headers.now) }
-{
-    for header in headers {
-        if is_same_name(header.0.as_slice(), name) {
-            return Some(header.1.as_slice());
-        }
-    }
-    None
+    raw.headers.first(name)
 }
 
 /// Whether there is a header of this name.

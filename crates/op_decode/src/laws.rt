@@ -1,14 +1,14 @@
 ghost use Rattle.std.specs.Prelude.{◌≡◌, ℕ, true, false, List, ◌∷◌, ◌++◌, length, map, Some, None, is_some, Ok, Err};
 ghost use Rattle.std.specs.List.{list_any};
 ghost use Rattle.http_front.specs.declared.raw.Raw.{Raw};
-ghost use Rattle.http_front.specs.Requests.{is_named};
+ghost use Rattle.head_text.specs.Headers.{is_named};
 ghost use Rattle.namespace_model.specs.declared.code.Code.{Code};
 ghost use Rattle.namespace_model.specs.declared.code.Code.TheVariants.{InvalidUri, NotBuiltYet, UnsupportedContentEncoding, UnsupportedHttpVerb};
 ghost use Rattle.namespace_model.specs.declared.op.Op.{Op};
 ghost use Rattle.op_decode.specs.declared.operation.Operation.{Operation};
 ghost use Rattle.op_decode.specs.Callers.{caller_of};
 ghost use Rattle.op_decode.specs.Decoded.{decoded, has_other_encoding};
-ghost use Rattle.op_decode.specs.Headers.{first_header};
+ghost use Rattle.head_text.specs.Headers.{first_header};
 ghost use Rattle.op_decode.specs.Laws.{IsRefused, IsTaken, PassesAll, PassesCaller, PassesOperation, PassesTarget, known_names, lowered, with_headers};
 ghost use Rattle.op_decode.specs.Methods.{method_of};
 ghost use Rattle.op_decode.specs.Operations.{operation_of, takes};

@@ -1,8 +1,0 @@
-use Rattle.std.proofs.Common.{◌≡◌, map, drop}
-use Rattle.head_text.specs.Headers.{header_of}
-use Rattle.op_decode.specs.Headers.{first_header}
-use Rattle.op_decode.proofs.headers.first_header.Given as goal
-
-abbrev pub invariant-loop-header : goal.invariant-loop-header
-invariant-loop-header l =
-    first_header l.name (map header_of (drop l.header-index l.headers)) ≡ first_header l.name (map header_of l.headers)

@@ -6,8 +6,9 @@ use Rattle.std.proofs.lemmas.List.Sums.{sum_by-append, count_by_more_yes, count_
 use Rattle.head_text.specs.Hex.{hex16}
 use Rattle.namespace_model.specs.declared.field.Field.{Field}
 use Rattle.namespace_model.specs.declared.field.Field.TheVariants.{Close, ETag, LastModified, AcceptRanges, ContentRange, ContentType, ResourceType, Owner, Group, Permissions, Acl, Properties, LeaseState, LeaseStatus, LeaseDuration, LeaseId, LeaseTime, NamespaceEnabled, Continuation, ContentLength}
+use Rattle.head_text.specs.TagTexts.{etag_text}
 use Rattle.reply_text.specs.declared.slots.Slots.{Slots}
-use Rattle.reply_text.specs.Lines.{line_end, line, etag_text, field_line, field_lines, status_line, moment_text}
+use Rattle.reply_text.specs.Lines.{line_end, line, field_line, field_lines, status_line, moment_text}
 use Rattle.reply_text.specs.ReplyText.{is_open, start_lines}
 use Rattle.reply_text.specs.Slots.{Spells, filled, behind, slots_with}
 use Rattle.reply_text.proofs.SlotLemmas.{spells_more, spells_behind, spells_first, spells_second}
@@ -54,7 +55,7 @@ abbrev behind_tag : List ℕ
 behind_tag = codes "\"" ++ line_end
 
 tag_parts : (n : ℕ) → before_tag ++ (hex16 n ++ behind_tag) ≡ field_line n (ETag None)
-unfolding field_line line etag_text
+unfolding field_line line
 tag_parts n = ap (λ t. before_tag ++ t) (sym (append_assoc (hex16 n) (codes "\"") line_end))
 
 tag_parts_too : (n : ℕ) → before_tag ++ hex16 n ++ behind_tag ≡ field_line n (ETag None)

@@ -4,8 +4,8 @@ use Rattle.std.specs.List.{flat_map}
 use Rattle.http.specs.StatusCode.{status_text}
 use Rattle.acl_text.specs.PermTexts.{letter}
 use Rattle.head_text.specs.DateText.{http_date}
-use Rattle.head_text.specs.Hex.{hex16}
 use Rattle.head_text.specs.PropertyTexts.{properties_text}
+use Rattle.head_text.specs.TagTexts.{etag_text}
 use Rattle.lease_state.specs.LeaseId.{lease_id_text}
 use Rattle.lease_state.specs.declared.lease.State.{State}
 use Rattle.lease_state.specs.declared.lease.State.TheVariants as state
@@ -38,10 +38,6 @@ status_line status = codes "HTTP/1.1 " ++ status_and_phrase status ++ line_end
 -- a moment as the date of its whole second
 unfoldable pub moment_text : ℕ → List ℕ
 moment_text moment = http_date (moment / 1000)
-
--- `"0x` and the hex digits of the number and `"`
-unfoldable pub etag_text : ℕ → List ℕ
-etag_text number = codes "\"0x" ++ hex16 number ++ codes "\""
 
 -- the first byte, the last byte, and how many the file has (RFC 9110, section 14.4)
 unfoldable pub range_text : ℕ → ℕ → ℕ → List ℕ

@@ -2,7 +2,8 @@ ghost use Rattle.std.specs.Prelude.{◌≡◌, ◌++◌, OnOk, IfOk};
 ghost use Rattle.acl_text.specs.PermTexts.{letter};
 ghost use Rattle.head_text.specs.PropertyTexts.{properties_text};
 ghost use Rattle.lease_state.specs.LeaseId.{lease_id_text};
-ghost use Rattle.reply_text.specs.Lines.{etag_text, range_text, media_text, kind_text, state_text, lock_text, duration_text, bits_text, rule_text};
+ghost use Rattle.head_text.specs.TagTexts.{etag_text};
+ghost use Rattle.reply_text.specs.Lines.{range_text, media_text, kind_text, state_text, lock_text, duration_text, bits_text, rule_text};
 
 use acl_text::Perm;
 use head_text::{Props, write_hex16, write_props};
@@ -11,7 +12,6 @@ use lease_state::{State, write_lease_id};
 use namespace_model::{Kind, Media, Rule};
 use std::alloc::{AllocError, Global};
 
-#[tactic(auto, unfolding(crate::specs::Lines::etag_text))]
 pub(crate) fn etag_text(number: u64) -> [u8; 20]
     ensures { result ≡ etag_text number }
 {

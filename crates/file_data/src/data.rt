@@ -80,7 +80,7 @@ impl FileData {
     /// Whether a piece of `len` bytes may be staged at a position, in bytes; it is where the position isn't below the
     /// length and the piece would not end above `FILE_MAX`. The errors are `BelowLength`, else `TooLarge`.
     pub fn can_stage(&self, position: u64, len: u64) -> Result<(), DataFault>
-        ensures { (bytes : List ℕ) → length bytes ≡ len → result ≡ stage_answer self.now position bytes }
+        ensures answer { (bytes : List ℕ) → length bytes ≡ len → result ≡ stage_answer self.now position bytes }
     {
         if position < self.len {
             return Err(DataFault::BelowLength);
@@ -102,7 +102,10 @@ impl FileData {
         ensures room { self.old.stage_room ≤ self.new.stage_room + 1 }
         ensures refused { OnErr result (self.new ≡ self.old) }
     {
-        self.can_stage(position, piece.bytes().len() as u64)?;
+        match self.can_stage(position, piece.bytes().len() as u64) {
+            Ok(()) => {}
+            Err(fault) => return Err(fault),
+        }
         put_piece(&mut self.staged, position, piece);
         self.flush_room = 0;
         Ok(())
@@ -128,7 +131,7 @@ impl FileData {
     /// a flush to its end. The errors are those of `can_stage`, else those of `can_flush` after the stage.
     pub fn can_append_flush(&self, position: u64, len: u64) -> Result<(), DataFault>
         requires { 0 < len }
-        ensures { (bytes : List ℕ) → length bytes ≡ len → result ≡ append_flush_answer self.now position bytes }
+        ensures answer { (bytes : List ℕ) → length bytes ≡ len → result ≡ append_flush_answer self.now position bytes }
     {
         self.can_stage(position, len)?;
         match append_trouble(self.staged.as_slice(), self.len, position, len) {

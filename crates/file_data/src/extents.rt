@@ -40,7 +40,7 @@ pub(crate) fn append_range(extents: &[(u64, SharedPiece)], from: u64, to: u64, o
     requires within { to ≤ length (bytes_of extents.now) }
     requires limit { length (bytes_of extents.now) ≤ file_max }
     requires room { vec_len out.old + (to - from) ≤ vec_capacity out.old }
-    ensures { out.new.items ≡ out.old.items ++ slice_range (bytes_of extents.now) from to }
+    ensures appended { out.new.items ≡ out.old.items ++ slice_range (bytes_of extents.now) from to }
 {
     let first = count_below(extents, from + 1).saturating_sub(1);
     let rest = &extents[first..];

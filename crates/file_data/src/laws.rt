@@ -1,11 +1,11 @@
 //! What staging and flushing keep, in plain words. Each law is the contract of a function that does nothing, and speaks
 //! of every file, every position and every list of pieces.
 
-ghost use Rattle.std.specs.Prelude.{◌≡◌, ◌≢◌, ◌↔◌, ◌⊎◌, ℕ, ◌+◌, ◌<◌, ◌≤◌, Bool, true, false, List, [], length, slice_range, Ok, Err, None};
+ghost use Rattle.std.specs.Prelude.{◌≡◌, ◌≢◌, ◌↔◌, ◌⊎◌, ℕ, ◌+◌, ◌<◌, ◌≤◌, Bool, true, false, List, [], ◌∷◌, length, slice_range, Ok, Err, None};
 ghost use Rattle.file_data.specs.declared.fault.DataFault.{DataFault};
 ghost use Rattle.file_data.specs.declared.fault.DataFault.TheVariants.{BelowLength, Gap, Overlap, WrongPosition, TooLarge};
 ghost use Rattle.file_data.specs.Staging.{pieces_below, bytes_of, Covers, first_trouble};
-ghost use Rattle.file_data.specs.FileRecord.{FileRecord, file_max, IsFile, AreExtents, SameButRoom, CanFlush, stage_answer, staged_with, flush_answer, flushed, end_at, CanAppendFlush, append_flush_answer, append_flushed};
+ghost use Rattle.file_data.specs.FileRecord.{FileRecord, bare_file, file_max, IsFile, AreExtents, SameButRoom, CanFlush, stage_answer, staged_with, flush_answer, flushed, end_at, CanAppendFlush, append_flush_answer, append_flushed};
 ghost use Rattle.file_data.specs.Troubles.{HasGap, HasOverlap, EndsAbove};
 ghost use Rattle.file_data.specs.Orders.{staged_all, reordered, StartApart};
 
@@ -88,6 +88,12 @@ pub fn what_was_appended_and_flushed_is_read()
         length (append_flushed f q bytes retain).committed ≡ end_at q bytes }
     ensures last { (f : FileRecord) (q : ℕ) (bytes : List ℕ) (retain : Bool) → CanAppendFlush f q bytes → 0 < length bytes →
         slice_range (append_flushed f q bytes retain).committed q (end_at q bytes) ≡ bytes }
+{}
+
+/// Of an empty file with `abc` staged at 0 and `defg` at 3 a flush to 7 makes two extents, at 0 and at 3.
+pub fn a_worked_file_has_two_extents()
+    ensures { (flushed (staged_with (staged_with bare_file 0 (97 ∷ 98 ∷ 99 ∷ [])) 3 (100 ∷ 101 ∷ 102 ∷ 103 ∷ [])) 7 false).extents
+        ≡ (0, 97 ∷ 98 ∷ 99 ∷ []) ∷ (3, 100 ∷ 101 ∷ 102 ∷ 103 ∷ []) ∷ [] }
 {}
 
 /// The extents of a file go on being as they have to be over an allowed flush: none is empty, they lie end to end, and

@@ -24,7 +24,7 @@ pub(crate) fn count_below(pieces: &[(u64, SharedPiece)], position: u64) -> usize
 // The first trouble on the way over the pieces.
 pub(crate) fn trouble(pieces: &[(u64, SharedPiece)], from: u64, to: u64) -> Option<DataFault>
     requires { All (λ (piece : ℕ × List ℕ). end_of piece ≤ file_max) pieces.now }
-    ensures { result ≡ first_trouble pieces.now from to }
+    ensures met { result ≡ first_trouble pieces.now from to }
 {
     let mut at = from;
     for piece in pieces {

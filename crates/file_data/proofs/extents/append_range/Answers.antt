@@ -24,4 +24,4 @@ returns c =
     let same = (range_of_rest c.args.extents.now (take (length c.args.extents.now - c.saturating_sub-first.result) (drop c.saturating_sub-first.result c.args.extents.now))
     c.count_below.result c.saturating_sub-first.result c.count_below-count.result c.args.from c.args.to c.requires.lie c.count_below.ensures.within c.saturating_sub-first.ensures
     c.count_below.ensures.front (sym (rest_is c.args.extents.now c.saturating_sub-first.result)) c.count_below-count.ensures.back).0 in
-    c.append_parts.ensures ∙ ap (λ (bs : List ℕ). c.args.out.now.items ++ bs) (sym same)
+    record { appended = c.append_parts.ensures ∙ ap (λ (bs : List ℕ). c.args.out.now.items ++ bs) (sym same) }

@@ -74,15 +74,15 @@ all_hex16 n = rw (hex_holds n 15, hex_holds n 14, hex_holds n 13, hex_holds n 12
 -- ---- the entity tag of a number
 
 trimmed_tag : (n : ℕ) → trimmed (etag_text n) ≡ etag_text n
-unfolding trimmed hex16
+unfolding trimmed hex16 etag_text
 trimmed_tag n = refl
 
 no_star : (n : ℕ) → bytes_eq (etag_text n) (codes "*") ≡ false
-unfolding hex16
+unfolding hex16 etag_text
 no_star n = refl
 
 one_item : (n : ℕ) → slice_split is_comma (etag_text n) ≡ etag_text n ∷ []
-unfolding hex16
+unfolding hex16 etag_text
 one_item n =
     slice_split_none is_comma (etag_text n) (All-from_recursion (λ b. is_comma b ≡ false) (etag_text n)
     (refl, (refl, (refl, (comma_fails n 15, (comma_fails n 14, (comma_fails n 13, (comma_fails n 12, (comma_fails n 11, (comma_fails n 10, (comma_fails n 9, (comma_fails n 8, (comma_fails n 7, (comma_fails n 6, (comma_fails n 5, (comma_fails n 4, (comma_fails n 3, (comma_fails n 2, (comma_fails n 1, (comma_fails n 0, (refl, tt)))))))))))))))))))))
@@ -92,6 +92,7 @@ unfolding hex16
 sixteen_digits n = refl
 
 spells_tag : (n : ℕ) → n < 2 ^ 64 → SpellsTag (etag_text n) n
+unfolding etag_text
 spells_tag n fits = record {
   weak = [];
   quote = codes "\"";

@@ -1,5 +1,6 @@
 pub mod ConditionLemmas
 pub mod Dates
+pub mod HeaderLemmas
 pub mod HexLemmas
 pub mod RangeLemmas
 pub mod TagLemmas

@@ -7,7 +7,7 @@ use Rattle.head_text.specs.ETags.{trimmed}
 use Rattle.head_text.specs.Hex.{hex16}
 
 -- the entity tag of a number as replies have it: `"0x`, sixteen hex digits, `"`
-abbrev pub etag_text : ℕ → List ℕ
+unfoldable pub etag_text : ℕ → List ℕ
 etag_text number = codes "\"0x" ++ hex16 number ++ codes "\""
 
 -- with spaces and tabs round it: perhaps `W/`, and then `0x` and sixteen hex digits of the number, in quotes or not

@@ -1,14 +1,15 @@
 //! What the readers and the writers keep, in plain words. Each law is the contract of a function that does nothing, and speaks of
 //! every text, every number and all properties.
 
-ghost use Rattle.std.specs.Prelude.{◌≡◌, ◌↔◌, ℕ, ◌<◌, ◌^◌, codes, List, [], ◌∷◌, Option, Some, Ok, Err, true, false};
-ghost use Rattle.std.specs.List.{Contains};
+ghost use Rattle.std.specs.Prelude.{◌≡◌, ◌↔◌, ℕ, ◌<◌, ◌^◌, codes, List, [], ◌∷◌, ◌++◌, Option, Some, None, Ok, Err, true, false};
+ghost use Rattle.std.specs.List.{AllByRecursion, Contains};
 ghost use Rattle.std.specs.Str.Parse.{digits_value};
 ghost use Rattle.httpdate.specs.Date.{parse_secs};
 ghost use Rattle.head_text.specs.ConditionWords.{AllHold, IsFirstUnmet};
 ghost use Rattle.head_text.specs.ConditionsOf.{conditions_of};
 ghost use Rattle.head_text.specs.DateText.{http_date};
 ghost use Rattle.head_text.specs.ETags.{etags_of, item_number, trimmed};
+ghost use Rattle.head_text.specs.Headers.{first_header, is_named};
 ghost use Rattle.head_text.specs.Hex.{hex16};
 ghost use Rattle.head_text.specs.Properties.{Property, IsProperties};
 ghost use Rattle.head_text.specs.PropertyTexts.{IsPropertiesText, properties_of, properties_text};
@@ -64,4 +65,13 @@ pub fn a_number_is_listed_exactly_where_an_item_spells_its_tag()
     ensures listed { (text : List ℕ) (items : List (List ℕ)) (number : ℕ) → AreItems text items →
         (Contains (etags_of text).numbers number ↔ ((item : List ℕ) × Contains items item × SpellsTag item number)) }
     ensures parted { (text : List ℕ) → (items : List (List ℕ)) × AreItems text items }
+{}
+
+/// The value of a name is that of the first header with this name, and there is none where no header has it.
+pub fn the_first_header_of_a_name_counts()
+    ensures first { (name : List ℕ) (front back : List (List ℕ × List ℕ)) (header : List ℕ × List ℕ) →
+        AllByRecursion (λ h. is_named name h ≡ false) front → is_named name header ≡ true →
+        first_header name (front ++ header ∷ back) ≡ Some header.1 }
+    ensures none { (name : List ℕ) (headers : List (List ℕ × List ℕ)) →
+        AllByRecursion (λ h. is_named name h ≡ false) headers → first_header name headers ≡ None }
 {}

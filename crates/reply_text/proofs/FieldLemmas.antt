@@ -55,7 +55,7 @@ abbrev behind_tag : List ℕ
 behind_tag = codes "\"" ++ line_end
 
 tag_parts : (n : ℕ) → before_tag ++ (hex16 n ++ behind_tag) ≡ field_line n (ETag None)
-unfolding field_line line
+unfolding field_line line etag_text
 tag_parts n = ap (λ t. before_tag ++ t) (sym (append_assoc (hex16 n) (codes "\"") line_end))
 
 tag_parts_too : (n : ℕ) → before_tag ++ hex16 n ++ behind_tag ≡ field_line n (ETag None)

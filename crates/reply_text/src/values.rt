@@ -12,6 +12,7 @@ use lease_state::{State, write_lease_id};
 use namespace_model::{Kind, Media, Rule};
 use std::alloc::{AllocError, Global};
 
+#[tactic(auto, unfolding(head_text::specs::TagTexts::etag_text))]
 pub(crate) fn etag_text(number: u64) -> [u8; 20]
     ensures { result ≡ etag_text number }
 {

@@ -18,6 +18,3 @@ pub use adapters::{StdIn, StdOut, SystemClock};
 pub use clocks::{FixedClock, ListClock};
 pub use memory::{BytesIn, BytesOut};
 pub use outside::{Clock, Failed, LAST_MOMENT, Sink, Source};
-
-#[cfg(test)]
-mod tests;

@@ -38,6 +38,3 @@ pub use props_reader::read_props;
 pub use props_writer::write_props;
 pub use range::{Range, read_range};
 pub use read_tags::read_etags;
-
-#[cfg(test)]
-mod tests;

@@ -20,6 +20,3 @@ mod table;
 pub use lease::{LAST_MOMENT, Lease, LeaseAction, LeaseFault, State};
 pub use lease_id::{read_lease_id, write_lease_id};
 pub use table::{act, after_write, may_write, state_at};
-
-#[cfg(test)]
-mod tests;

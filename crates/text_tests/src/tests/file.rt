@@ -1,28 +1,37 @@
-ghost use Rattle.std.specs.Prelude.{◌<◌, length};
-
+// What is appended to files, and what of it a flush takes.
 use file_data::{DataFault, FILE_MAX, FileData, Piece, SharedPiece};
 use std::alloc::{AllocError, Global};
 use std::test::Fail;
 
 #[test]
-fn pieces_keep_and_share_their_bytes(rt: HostRuntime) -> Result<(), Fail> {
+fn pieces_keep_their_bytes(rt: HostRuntime) -> Result<(), Fail> {
     let piece = Piece::new(b"hello".as_slice().to_vec(rt.alloc())?);
     assert_eq!(rt; piece.copy(rt.alloc())?.bytes(), b"hello".as_slice());
-    let shared = SharedPiece::new(rt.alloc(), piece)?;
-    assert_eq!(rt; shared.copy()?.bytes(), b"hello".as_slice());
-    assert_eq!(rt; shared.bytes(), b"hello".as_slice());
     Ok(())
 }
 
+#[test]
+fn pieces_are_shared(rt: HostRuntime) -> Result<(), Fail> {
+    let piece = shared(rt.alloc(), b"hello")?;
+    assert_eq!(rt; piece.copy()?.bytes(), b"hello".as_slice());
+    Ok(())
+}
+
+fn shared(alloc: Global, bytes: &[u8]) -> Result<SharedPiece, AllocError> {
+    SharedPiece::new(alloc, Piece::new(bytes.to_vec(alloc)?))
+}
+
+// Appends the bytes, where there are some.
 fn append(
     alloc: Global,
     file: &mut FileData,
     position: u64,
     bytes: &[u8],
-) -> Result<Result<(), DataFault>, AllocError>
-    requires { 0 < length bytes.now }
-{
-    let piece = SharedPiece::new(alloc, Piece::new(bytes.to_vec(alloc)?))?;
+) -> Result<Result<(), DataFault>, AllocError> {
+    if bytes.is_empty() {
+        return Ok(Ok(()));
+    }
+    let piece = shared(alloc, bytes)?;
     file.reserve_stage()?;
     Ok(file.stage(position, piece))
 }
@@ -36,115 +45,132 @@ fn flush(
     Ok(file.flush(position, retain))
 }
 
+// A file to which these were appended, in this order.
+fn file_of(alloc: Global, pieces: &[(u64, &[u8])]) -> Result<FileData, AllocError> {
+    let mut file = FileData::new(alloc);
+    for (position, bytes) in pieces {
+        let _staged = append(alloc, &mut file, *position, bytes)?;
+    }
+    Ok(file)
+}
+
 fn whole(alloc: Global, file: &FileData) -> Result<Vec<u8>, AllocError> {
     let mut out = Vec::new(alloc);
     file.read(0, file.len(), &mut out)?;
     Ok(out)
 }
 
-#[test]
-fn append_and_flush(rt: HostRuntime) -> Result<(), Fail> {
-    let alloc = rt.alloc();
-    let mut file = FileData::new(alloc);
-    assert_eq!(rt; append(alloc, &mut file, 5, b"world".as_slice())?, Ok(()));
-    assert_eq!(rt; append(alloc, &mut file, 0, b"hello".as_slice())?, Ok(()));
-    assert_eq!(rt; file.len(), 0);
-    assert_eq!(rt; flush(&mut file, 10, false)?, Ok(()));
-    assert_eq!(rt; whole(alloc, &file)?.as_slice(), b"helloworld".as_slice());
-    let mut other = file.copy(alloc)?;
-    assert_eq!(rt; append(alloc, &mut file, 12, b"!!".as_slice())?, Ok(()));
-    assert_eq!(rt; flush(&mut file, 14, false)?, Err(DataFault::Gap(10)));
-    assert_eq!(rt; flush(&mut file, 10, false)?, Ok(()));
-    assert_eq!(rt; flush(&mut file, 14, false)?, Err(DataFault::Gap(10)));
-    assert_eq!(rt; append(alloc, &mut file, 10, b"abc".as_slice())?, Ok(()));
-    assert_eq!(rt; append(alloc, &mut file, 13, b"defg".as_slice())?, Ok(()));
-    assert_eq!(rt; flush(&mut file, 13, true)?, Ok(()));
-    assert_eq!(rt; flush(&mut file, 17, false)?, Ok(()));
-    assert_eq!(rt; file.len(), 17);
-    assert_eq!(rt;
-        whole(alloc, &file)?.as_slice(),
-        b"helloworldabcdefg".as_slice()
-    );
-    assert_eq!(rt; append(alloc, &mut other, 10, b"abc".as_slice())?, Ok(()));
-    assert_eq!(rt; append(alloc, &mut other, 13, b"defg".as_slice())?, Ok(()));
-    assert_eq!(rt;
-        flush(&mut other, 14, false)?,
-        Err(DataFault::WrongPosition)
-    );
-    assert_eq!(rt; flush(&mut other, 13, false)?, Ok(()));
-    assert_eq!(rt; flush(&mut other, 17, false)?, Err(DataFault::Gap(13)));
-    let below = Err(DataFault::BelowLength);
-    assert_eq!(rt; append(alloc, &mut other, 3, b"x".as_slice())?, below);
-    assert_eq!(rt; other.can_flush(3), below);
-    Ok(())
+// The bytes of a file behind a flush.
+fn flushed(
+    alloc: Global,
+    pieces: &[(u64, &[u8])],
+    position: u64,
+) -> Result<Result<Vec<u8>, DataFault>, AllocError> {
+    let mut file = file_of(alloc, pieces)?;
+    match flush(&mut file, position, false)? {
+        Ok(()) => Ok(Ok(whole(alloc, &file.copy(alloc)?)?)),
+        Err(fault) => Ok(Err(fault)),
+    }
 }
 
-#[test]
-fn a_piece_replaces_and_pieces_overlap(rt: HostRuntime) -> Result<(), Fail> {
-    let alloc = rt.alloc();
-    let mut file = FileData::new(alloc);
-    assert_eq!(rt; append(alloc, &mut file, 0, b"abc".as_slice())?, Ok(()));
-    assert_eq!(rt; append(alloc, &mut file, 0, b"de".as_slice())?, Ok(()));
-    assert_eq!(rt; flush(&mut file, 2, false)?, Ok(()));
-    assert_eq!(rt; whole(alloc, &file)?.as_slice(), b"de".as_slice());
-    assert_eq!(rt; append(alloc, &mut file, 2, b"abcd".as_slice())?, Ok(()));
-    assert_eq!(rt; append(alloc, &mut file, 4, b"xy".as_slice())?, Ok(()));
-    assert_eq!(rt; flush(&mut file, 6, false)?, Err(DataFault::Overlap(4)));
-    let last = FILE_MAX - 1;
-    assert_eq!(rt; append(alloc, &mut file, last, b"z".as_slice())?, Ok(()));
-    let large = Err(DataFault::TooLarge);
-    assert_eq!(rt; append(alloc, &mut file, last, b"zz".as_slice())?, large);
-    Ok(())
+const FIRST: (u64, &[u8]) = (0, b"one ");
+
+const SECOND: (u64, &[u8]) = (4, b"two ");
+
+const THIRD: (u64, &[u8]) = (8, b"three");
+
+fn is_whole(alloc: Global, pieces: &[(u64, &[u8])]) -> Result<bool, AllocError> {
+    let found = flushed(alloc, pieces, 13)?;
+    Ok(found.is_ok_and(|bytes| bytes.as_slice() == b"one two three".as_slice()))
 }
 
 #[test]
 fn three_pieces_in_every_order(rt: HostRuntime) -> Result<(), Fail> {
     let alloc = rt.alloc();
-    let first = (0, b"one ".as_slice());
-    let second = (4, b"two ".as_slice());
-    let third = (8, b"three".as_slice());
     for order in [
-        [first, second, third],
-        [first, third, second],
-        [second, first, third],
-        [second, third, first],
-        [third, first, second],
-        [third, second, first],
+        [FIRST, SECOND, THIRD],
+        [FIRST, THIRD, SECOND],
+        [SECOND, FIRST, THIRD],
+        [SECOND, THIRD, FIRST],
+        [THIRD, FIRST, SECOND],
+        [THIRD, SECOND, FIRST],
     ] {
-        let mut file = FileData::new(alloc);
-        for (position, bytes) in order {
-            if !bytes.is_empty() {
-                assert_eq!(rt; append(alloc, &mut file, position, bytes)?, Ok(()));
-            }
-        }
-        assert_eq!(rt; flush(&mut file, 13, false)?, Ok(()));
-        assert_eq!(rt;
-            whole(alloc, &file)?.as_slice(),
-            b"one two three".as_slice()
-        );
+        assert!(rt; is_whole(alloc, order.as_slice())?);
     }
     Ok(())
 }
 
+// What a flush refuses.
+fn fault_of(
+    alloc: Global,
+    pieces: &[(u64, &[u8])],
+    position: u64,
+) -> Result<Option<DataFault>, AllocError> {
+    Ok(flushed(alloc, pieces, position)?.err())
+}
+
 #[test]
-fn messages(rt: HostRuntime) -> Result<(), Fail> {
-    for (fault, text) in [
-        (
-            DataFault::BelowLength,
-            "The position is below the length of the file.",
-        ),
-        (DataFault::Gap(7), "No bytes were appended at 7."),
-        (
-            DataFault::Overlap(4),
-            "The bytes that were appended at 4 overlap others.",
-        ),
-        (
-            DataFault::WrongPosition,
-            "The position is inside of appended bytes.",
-        ),
-        (DataFault::TooLarge, "The file would be too large."),
-    ] {
-        assert_eq!(rt; fault.to_string(rt.alloc())?.as_str(), text);
-    }
+fn a_flush_needs_all_bytes_below_it(rt: HostRuntime) -> Result<(), Fail> {
+    let alloc = rt.alloc();
+    let gap = fault_of(alloc, &[(0, b"hello"), (7, b"!!")], 9)?;
+    assert_eq!(rt; gap, Some(DataFault::Gap(5)));
+    let overlap = fault_of(alloc, &[(0, b"abcd"), (2, b"xy")], 4)?;
+    assert_eq!(rt; overlap, Some(DataFault::Overlap(2)));
+    let inside = fault_of(alloc, &[(0, b"abc"), (3, b"defg")], 4)?;
+    assert_eq!(rt; inside, Some(DataFault::WrongPosition));
+    Ok(())
+}
+
+#[test]
+fn a_piece_replaces_one_at_its_position(rt: HostRuntime) -> Result<(), Fail> {
+    let found = flushed(rt.alloc(), &[(0, b"abc"), (0, b"de")], 2)?;
+    assert!(rt; found.is_ok_and(|bytes| bytes.as_slice() == b"de".as_slice()));
+    Ok(())
+}
+
+// What a second flush at 7 answers behind one at 3.
+fn second_flush(alloc: Global, retain: bool) -> Result<Result<(), DataFault>, AllocError> {
+    let mut file = file_of(alloc, &[(0, b"abc"), (3, b"defg")])?;
+    let _first = flush(&mut file, 3, retain)?;
+    flush(&mut file, 7, false)
+}
+
+#[test]
+fn a_flush_retains_what_stands_above_it_where_it_is_asked_to(rt: HostRuntime) -> Result<(), Fail> {
+    let alloc = rt.alloc();
+    assert_eq!(rt; second_flush(alloc, true)?, Ok(()));
+    assert_eq!(rt; second_flush(alloc, false)?, Err(DataFault::Gap(3)));
+    Ok(())
+}
+
+fn three_bytes(alloc: Global) -> Result<FileData, AllocError> {
+    let mut file = file_of(alloc, &[(0, b"abc")])?;
+    let _flushed = flush(&mut file, 3, false)?;
+    Ok(file)
+}
+
+#[test]
+fn nothing_is_changed_below_the_length(rt: HostRuntime) -> Result<(), Fail> {
+    let alloc = rt.alloc();
+    let mut file = three_bytes(alloc)?;
+    assert_eq!(rt; file.len(), 3);
+    assert_eq!(rt;
+        append(alloc, &mut file, 2, b"x")?,
+        Err(DataFault::BelowLength)
+    );
+    assert_eq!(rt; file.can_flush(2), Err(DataFault::BelowLength));
+    Ok(())
+}
+
+#[test]
+fn a_file_has_a_greatest_length(rt: HostRuntime) -> Result<(), Fail> {
+    let alloc = rt.alloc();
+    let mut file = FileData::new(alloc);
+    let last = FILE_MAX - 1;
+    assert_eq!(rt; append(alloc, &mut file, last, b"z")?, Ok(()));
+    assert_eq!(rt;
+        append(alloc, &mut file, last, b"zz")?,
+        Err(DataFault::TooLarge)
+    );
     Ok(())
 }

@@ -1,8 +1,8 @@
 // Tables of lease ids, and of what actions and writes make of leases.
 use super::say::say;
 use lease_state::{
-    LAST_MOMENT, Lease, LeaseAction, LeaseFault, act, after_write, may_write, read_lease_id,
-    state_at, write_lease_id,
+    AppendLease, LAST_MOMENT, Lease, LeaseAction, LeaseFault, act, act_append, after_write,
+    may_write, read_lease_id, state_at, write_lease_id,
 };
 use std::alloc::{AllocError, Global};
 
@@ -18,6 +18,7 @@ pub fn answer(
         "lease_ids" => id(alloc, first, out)?,
         "written_lease_ids" => written_id(first, out)?,
         "lease_steps" => step(alloc, first, second, out)?,
+        "lease_appends" => append(alloc, first, second, out)?,
         _ => return Ok(false),
     }
     Ok(true)
@@ -47,12 +48,72 @@ fn written_id(text: &[u8], out: &mut Vec<u8>) -> Result<(), AllocError> {
 // numbers.
 fn step(alloc: Global, lease: &[u8], text: &[u8], out: &mut Vec<u8>) -> Result<(), AllocError> {
     match (lease_of(lease), step_of(text)) {
-        (Some(lease), Some((moment, word, rest))) => match after(&lease, moment, word, rest) {
-            Some(Ok(lease)) => say_lease(alloc, &lease, out),
-            Some(Err(fault)) => say(out, format!(in alloc; "{fault:?}")?.as_str()),
-            None => say_state(alloc, &lease, moment, word, out),
-        },
+        (Some(lease), Some((moment, "state", _))) => say_state(alloc, &lease, moment, out),
+        (Some(lease), Some((moment, word, rest))) => {
+            say_after(alloc, after(&lease, moment, word, rest), out)
+        }
         _ => say(out, "no step"),
+    }
+}
+
+// The same of an append, with `by` and an id behind it where one is given.
+fn append(alloc: Global, lease: &[u8], text: &[u8], out: &mut Vec<u8>) -> Result<(), AllocError> {
+    match (lease_of(lease), step_of(text)) {
+        (Some(lease), Some((moment, word, rest))) => {
+            say_after(alloc, after_append(&lease, moment, word, rest), out)
+        }
+        _ => say(out, "no step"),
+    }
+}
+
+fn say_after(
+    alloc: Global,
+    after: Option<Result<Lease, LeaseFault>>,
+    out: &mut Vec<u8>,
+) -> Result<(), AllocError> {
+    match after {
+        Some(Ok(lease)) => say_lease(alloc, &lease, out),
+        Some(Err(fault)) => say(out, format!(in alloc; "{fault:?}")?.as_str()),
+        None => say(out, "no step"),
+    }
+}
+
+// What an append leaves; none where it lacks an id that it needs.
+fn after_append(
+    lease: &Lease,
+    moment: u64,
+    word: &str,
+    rest: &str,
+) -> Option<Result<Lease, LeaseFault>> {
+    let (rest, given) = match rest.strip_prefix("by ") {
+        Some(given) => ("", given),
+        None => rest.split_once(" by ").unwrap_or((rest, "")),
+    };
+    let given = given.parse().ok();
+    let action = append_of(word, rest)?;
+    let needs_id = matches!(action, AppendLease::AutoRenew | AppendLease::Release);
+    if LAST_MOMENT < moment || needs_id && given.is_none() {
+        return None;
+    }
+    Some(act_append(lease, &action, given, moment))
+}
+
+fn append_of(word: &str, rest: &str) -> Option<AppendLease> {
+    let (first, second) = rest.split_once(' ').unwrap_or((rest, ""));
+    let secs = second.parse().ok();
+    match word {
+        "plain" => Some(AppendLease::Plain),
+        "acquire" => Some(AppendLease::Acquire {
+            proposed: first.parse().ok()?,
+            secs,
+        }),
+        "auto-renew" => Some(AppendLease::AutoRenew),
+        "release" => Some(AppendLease::Release),
+        "acquire-release" => Some(AppendLease::AcquireRelease {
+            proposed: first.parse().ok()?,
+            secs,
+        }),
+        _ => None,
     }
 }
 
@@ -66,12 +127,8 @@ fn say_state(
     alloc: Global,
     lease: &Lease,
     moment: u64,
-    word: &str,
     out: &mut Vec<u8>,
 ) -> Result<(), AllocError> {
-    if word != "state" {
-        return say(out, "no step");
-    }
     let state = state_at(lease, moment);
     say(out, format!(in alloc; "{state:?}")?.as_str())
 }

@@ -1,4 +1,5 @@
 // Tables of requests as they are decoded.
+use super::head::headers_of;
 use super::say::{say, say_whether};
 use file_data::{Piece, SharedPiece};
 use head_text::HeaderList;
@@ -32,43 +33,17 @@ fn split_at(text: &[u8], byte: u8) -> (&[u8], &[u8]) {
     }
 }
 
-// Appends the headers of a text, with `;` between them.
-fn push_headers(
-    alloc: Global,
-    text: &[u8],
-    pairs: &mut Vec<(Vec<u8>, Vec<u8>)>,
-) -> Result<(), AllocError> {
-    for part in text.split(|byte| *byte == b';') {
-        let (name, value) = split_at(part, b':');
-        if !value.is_empty() {
-            push_header(alloc, name, value, pairs)?;
-        }
-    }
-    Ok(())
-}
-
-fn push_header(
-    alloc: Global,
-    name: &[u8],
-    value: &[u8],
-    pairs: &mut Vec<(Vec<u8>, Vec<u8>)>,
-) -> Result<(), AllocError> {
-    let name = name.trim_ascii().to_vec(alloc)?;
-    let value = value.trim_ascii().to_vec(alloc)?;
-    pairs.push((name, value)).map_err(AllocError::from)
-}
-
-// The headers, and the superuser as the caller where the text names none.
-fn headers_of(alloc: Global, text: &[u8]) -> Result<HeaderList, AllocError> {
-    let mut pairs = Vec::new(alloc);
-    if !text
+// The headers, the superuser as the caller where the text names none.
+fn with_caller(alloc: Global, text: &[u8]) -> Result<HeaderList, AllocError> {
+    let is_named = text
         .windows(11)
-        .any(|word| word.eq_ignore_ascii_case(b"x-ms-caller"))
-    {
-        push_header(alloc, b"X-Ms-Caller", b"$superuser", &mut pairs)?;
+        .any(|word| word.eq_ignore_ascii_case(b"x-ms-caller"));
+    let mut headers = Vec::new(alloc);
+    if !is_named {
+        headers.extend_from_slice(b"X-Ms-Caller: $superuser;")?;
     }
-    push_headers(alloc, text, &mut pairs)?;
-    Ok(HeaderList::new(pairs))
+    headers.extend_from_slice(text)?;
+    headers_of(alloc, headers.as_slice())
 }
 
 fn piece_of(alloc: Global, bytes: &[u8]) -> Result<Piece, AllocError> {
@@ -84,7 +59,7 @@ fn raw_of(alloc: Global, line: &[u8], headers: &[u8], minor: u8) -> Result<Raw, 
     let (method, target) = split_at(line, b' ');
     let method = piece_of(alloc, method)?;
     let target = piece_of(alloc, target)?;
-    let headers = headers_of(alloc, headers)?;
+    let headers = with_caller(alloc, headers)?;
     let body = body_of(alloc)?;
     Ok(Raw {
         method,

@@ -68,6 +68,7 @@ pub fn enter(
     Ok(())
 }
 
+/// Puts a directory without children, of the moment 1.
 pub fn put_directory(
     alloc: Global,
     stripe: &mut Stripe,
@@ -79,6 +80,7 @@ pub fn put_directory(
     enter(alloc, stripe, Change::Put(NodeId(id), made), number)
 }
 
+/// Puts an empty file, of the moment 1.
 pub fn put_file(
     alloc: Global,
     stripe: &mut Stripe,
@@ -107,6 +109,7 @@ pub fn link(
     )
 }
 
+/// Takes the child of this name away.
 pub fn unlink(alloc: Global, stripe: &mut Stripe, id: u64, text: &[u8]) -> Result<(), AllocError> {
     let name = name(alloc, text)?;
     let change = Change::Unlink(NodeId(id), name).copy(alloc)?;
@@ -142,6 +145,7 @@ pub fn stage(
     enter(alloc, stripe, Change::Edit(NodeId(id), edit), 3)
 }
 
+/// Takes what is staged below a position into the file.
 pub fn flush(alloc: Global, stripe: &mut Stripe, id: u64, position: u64) -> Result<(), AllocError> {
     enter(
         alloc,
@@ -151,6 +155,7 @@ pub fn flush(alloc: Global, stripe: &mut Stripe, id: u64, position: u64) -> Resu
     )
 }
 
+/// Takes a node away.
 pub fn drop_node(alloc: Global, stripe: &mut Stripe, id: u64) -> Result<(), AllocError> {
     enter(alloc, stripe, Change::Drop(NodeId(id)), 17)
 }

@@ -19,6 +19,3 @@ mod rights;
 pub use inheritance::{base_pair, inherit};
 pub use permission::check;
 pub use rights::{is_superuser, may_chgrp, may_chmod, may_chown, sticky_allows};
-
-#[cfg(test)]
-mod tests;

@@ -7,8 +7,6 @@
 
 mod journal;
 mod limits;
-#[cfg(test)]
-mod tests;
 
 pub use journal::{Journal, ReserveStop};
 pub use limits::{BYTES_MOST, Full, JOURNAL_MOST, Limits, PASSES_MOST, REQUESTS_MOST};

@@ -19,6 +19,3 @@ pub use clocks::{FixedClock, ListClock};
 pub use memory::{BytesIn, BytesOut};
 pub use lease_state::LAST_MOMENT;
 pub use outside::{Clock, Failed, Sink, Source};
-
-#[cfg(test)]
-mod tests;

@@ -57,6 +57,3 @@ pub use node_ref::NodeRef;
 pub use placed::Placed;
 pub use stripe::Stripe;
 pub use view::View;
-
-#[cfg(test)]
-mod tests;

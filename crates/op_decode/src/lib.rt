@@ -24,6 +24,3 @@ pub use laws::{
     other_headers_are_ignored, the_first_of_a_name_counts,
 };
 pub use steps::decode;
-
-#[cfg(test)]
-mod tests;

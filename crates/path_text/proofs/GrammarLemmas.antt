@@ -1,13 +1,13 @@
 -- A text that is read as a path is the text of that path, and the path keeps the limits.
 use Rattle.std.proofs.Common.{◌≡◌, ℕ, zero, suc, ◌+◌, ◌-◌, ◌<◌, ◌≤◌, ◌⊎◌, inl, inr, Bool, true, false, not, cond, eqb, ltb, nat_le, List, [], ◌∷◌, ◌++◌, length, get_or, take, Option, Some, None, option_map, Ok, IsUtf8, lit<, refl, sym, ap, ◌∙◌, subst, ⊎_elim, arith}
-use Rattle.std.specs.List.{list_all, join_with_byte, slice_split, onto_first, position, prefix_len}
+use Rattle.std.specs.List.{list_all, join_with_byte, slice_split, position, prefix_len}
 use Rattle.std.specs.Str.{is_utf8}
 use Rattle.std.specs.Str.Lossy.{utf8_valid_len, valid_len_up_to}
 use Rattle.std.proofs.lemmas.Bool.{false≢true, cases_Bool, eqb-true}
 use Rattle.std.proofs.lemmas.Bool.Decides.{nat_tests}
 use Rattle.std.proofs.lemmas.List.{take_all, take_more}
 use Rattle.std.proofs.lemmas.List.Folds.{list_all-append}
-use Rattle.std.proofs.lemmas.List.Splits.{join_with_byte-slice_split, slice_split-cons_yes, slice_split-cons_no}
+use Rattle.std.proofs.lemmas.List.Splits.{join_with_byte-slice_split}
 use Rattle.std.proofs.lemmas.Str.{IsUtf8-nil, IsUtf8-from_is_utf8, IsUtf8-take, IsUtf8-encode, encode_ascii, IsCharBoundary-at_seam}
 use Rattle.std.proofs.Math.Seq.{take-append_seam}
 use Rattle.path_text.specs.declared.fault.PathFault.{PathFault}
@@ -16,10 +16,11 @@ use Rattle.path_text.specs.Names.{is_fs_name}
 use Rattle.path_text.specs.Texts.{is_byte, is_control, is_dots, is_name, is_slash, are_parts, path_text, KeepsLimits, Spells, inner, split_parts, part_fault, parts_fault, or_else, utf8_fault, size_fault, text_fault, plain_path, path_or_fault}
 use Rattle.path_text.proofs.WrittenLemmas.{both_parts}
 use Rattle.path_text.proofs.PlaceLemmas.{place_is_end}
+use Rattle.path_text.proofs.SplitLemmas.{pieces_have_none}
 
 -- ---- the slashes at the ends
 
-ends_in_slash : (rest : List ℕ) → is_slash (get_or rest (length rest - 1) 0) ≡ true → rest ≡ take (length rest - 1) rest ++ 47 ∷ []
+pub ends_in_slash : (rest : List ℕ) → is_slash (get_or rest (length rest - 1) 0) ≡ true → rest ≡ take (length rest - 1) rest ++ 47 ∷ []
 ends_in_slash [] e = absurd (false≢true e)
 ends_in_slash (b ∷ rest) e =
     let last : get_or (b ∷ rest) (length (b ∷ rest) - 1) 0 ≡ 47 = eqb-true _ 47 e in
@@ -41,7 +42,7 @@ text_is (b ∷ rest) e =
 
 -- ---- what the questions say where there is no fault
 
-no_fault : (a b : Option PathFault) → or_else a b ≡ None → (a ≡ None) × (b ≡ None)
+pub no_fault : (a b : Option PathFault) → or_else a b ≡ None → (a ≡ None) × (b ≡ None)
 no_fault None b e = (refl, e)
 no_fault (Some fault) b e = cc
 
@@ -99,18 +100,6 @@ utf8_before_slash text u =
 
 -- ---- the parts
 
-pieces_have_no_slash : (text : List ℕ) → list_all (list_all (λ b. not (is_slash b))) (slice_split is_slash text) ≡ true
-pieces_have_no_slash [] = refl
-pieces_have_no_slash (b ∷ text) =
-    ⊎_elim
-    (λ yes. rw (slice_split-cons_yes is_slash b text yes) (pieces_have_no_slash text))
-    (λ none. rw (slice_split-cons_no is_slash b text none) (onto_keeps b (slice_split is_slash text) none (pieces_have_no_slash text)))
-    (cases_Bool (is_slash b))
-  where
-    onto_keeps : (b : ℕ) (pieces : List (List ℕ)) → is_slash b ≡ false → list_all (list_all (λ x. not (is_slash x))) pieces ≡ true → list_all (list_all (λ x. not (is_slash x))) (onto_first b pieces) ≡ true
-    onto_keeps b [] none all = rw none refl
-    onto_keeps b (piece ∷ pieces) none all = rw none all
-
 not_empty : (n : ℕ) → eqb n 0 ≡ false → nat_le 1 n ≡ true
 not_empty n e = grind (arith, nat_tests)
 
@@ -135,7 +124,7 @@ names_where_fine place (part ∷ parts) below e plain =
     let pieces = both_parts (list_all (λ b. not (is_slash b)) part) (list_all (list_all (λ b. not (is_slash b))) parts) plain in
     rw (is_name_where_fine place part below here.0 pieces.0) (names_where_fine (place + 1) parts (omega arith) here.1 pieces.1)
 
-parts_where_fine : (parts : List (List ℕ)) → parts_fault 0 parts ≡ None → list_all (list_all (λ b. not (is_slash b))) parts ≡ true → are_parts parts ≡ true
+pub parts_where_fine : (parts : List (List ℕ)) → parts_fault 0 parts ≡ None → list_all (list_all (λ b. not (is_slash b))) parts ≡ true → are_parts parts ≡ true
 parts_where_fine [] e plain = refl
 parts_where_fine (fs ∷ names) e plain =
     let here = no_fault (part_fault 0 fs) (parts_fault 1 names) e in
@@ -147,7 +136,7 @@ parts_where_fine (fs ∷ names) e plain =
 split_parts_have_no_slash : (rest : List ℕ) → list_all (list_all (λ b. not (is_slash b))) (split_parts rest) ≡ true
 unfolding split_parts
 split_parts_have_no_slash rest =
-    ⊎_elim (λ yes. rw yes refl) (λ none. rw none (pieces_have_no_slash rest)) (cases_Bool (eqb (length rest) 0))
+    ⊎_elim (λ yes. rw yes refl) (λ none. rw none (pieces_have_none is_slash rest)) (cases_Bool (eqb (length rest) 0))
 
 join_split_parts : (rest : List ℕ) → join_with_byte 47 (split_parts rest) ≡ rest
 unfolding split_parts
@@ -158,7 +147,7 @@ join_split_parts (b ∷ rest) =
 
 -- ---- the whole
 
-found_nowhere : (p : ℕ → Bool) (xs : List ℕ) → position p xs ≡ None → list_all (λ b. not (p b)) xs ≡ true
+pub found_nowhere : (p : ℕ → Bool) (xs : List ℕ) → position p xs ≡ None → list_all (λ b. not (p b)) xs ≡ true
 found_nowhere p xs e = everywhere (λ b. not (p b)) xs (place_is_end p xs e)
 
 -- what holds of each byte of the text holds of each byte of the path's

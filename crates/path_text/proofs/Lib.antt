@@ -7,4 +7,8 @@ pub mod RoundTrip
 pub mod GrammarLemmas
 pub mod TokenLemmas
 pub mod LawLemmas
+pub mod SplitLemmas
+pub mod FaultLemmas
+pub mod QueryLemmas
 pub mod TargetLemmas
+pub mod RefusalLemmas

@@ -8,7 +8,7 @@ use Rattle.std.proofs.lemmas.Bool.Decides.{nat_tests}
 pub rest_is : (xs : List ℕ) (n : ℕ) → take (length xs - n) (drop n xs) ≡ drop n xs
 rest_is xs n = take_all (length xs - n) (drop n xs) (omega (arith, length-drop n xs))
 
-chosen_some : (b : Bool) (x at : ℕ) → cond b (Some x) None ≡ Some at → (b ≡ true) × (x ≡ at)
+pub chosen_some : (b : Bool) (x at : ℕ) → cond b (Some x) None ≡ Some at → (b ≡ true) × (x ≡ at)
 chosen_some true x at e = (refl, cc)
 chosen_some false x at e = cc
 

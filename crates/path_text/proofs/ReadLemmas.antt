@@ -72,13 +72,13 @@ all_true p q (x ∷ xs) all =
 pub nowhere : (p : ℕ → Bool) (xs : List ℕ) → list_all (λ b. not (p b)) xs ≡ true → position p xs ≡ None
 nowhere p xs all = rw (all_true (λ b. not (p b)) p xs all) (let e : ltb (length xs) (length xs) ≡ false = grind (arith, nat_tests) in rw e refl)
 
-no_slashes : (part : List ℕ) → list_all (λ b. not (is_slash b)) part ≡ true → All (λ b. is_slash b ≡ false) part
+pub no_slashes : (part : List ℕ) → list_all (λ b. not (is_slash b)) part ≡ true → All (λ b. is_slash b ≡ false) part
 no_slashes [] e = All-nil (λ b. is_slash b ≡ false)
 no_slashes (b ∷ part) e =
     let parts = both_parts (not (is_slash b)) (list_all (λ x. not (is_slash x)) part) e in
     All-cons (λ x. is_slash x ≡ false) b part (not_true (is_slash b) parts.0) (no_slashes part parts.1)
 
-not_zero : (n : ℕ) → 0 < n → eqb n 0 ≡ false
+pub not_zero : (n : ℕ) → 0 < n → eqb n 0 ≡ false
 not_zero n some = grind (arith, nat_tests)
 
 not_above : (n k : ℕ) → nat_le n k ≡ true → ltb k n ≡ false
@@ -156,7 +156,7 @@ names_are_fine place (name ∷ names) below e =
     let parts = both_parts (is_name name) (list_all is_name names) e in
     rw (name_is_fine place name below parts.0) (names_are_fine (place + 1) names (omega arith) parts.1)
 
-parts_are_fine : (path : List (List ℕ)) → are_parts path ≡ true → parts_fault 0 path ≡ None
+pub parts_are_fine : (path : List (List ℕ)) → are_parts path ≡ true → parts_fault 0 path ≡ None
 parts_are_fine [] e = refl
 parts_are_fine (fs ∷ names) e =
     let parts = both_parts (is_fs_name fs) (list_all is_name names) e in
@@ -184,7 +184,7 @@ pub path_is_read : (path : List (List ℕ)) → KeepsLimits path → plain_path 
 path_is_read path limits =
     read_where (path_text path) path limits refl limits.utf8 limits.no_control (inner_of_path path limits.parts)
 
-inner_of_ended : (rest : List ℕ) → inner ((47 ∷ rest) ++ 47 ∷ []) ≡ rest
+pub inner_of_ended : (rest : List ℕ) → inner ((47 ∷ rest) ++ 47 ∷ []) ≡ rest
 unfolding inner
 inner_of_ended rest =
     let long = length-append rest (47 ∷ []) in

@@ -1,5 +1,5 @@
 -- A target is read exactly where it spells a path and a query.
-use Rattle.std.proofs.Common.{◌≡◌, ℕ, Bool, true, false, cond, List, [], ◌∷◌, get_or, take, drop, Option, Some, None, Result, Ok, Err, All, refl, sym, ap, ◌∙◌, arith}
+use Rattle.std.proofs.Common.{◌≡◌, ℕ, Bool, true, false, cond, List, [], ◌∷◌, get_or, take, drop, Option, Some, None, Result, Ok, Err, All, refl, sym, ap, subst, ◌∙◌, arith}
 use Rattle.std.specs.List.{list_all, position_or_len}
 use Rattle.std.proofs.lemmas.Bool.Decides.{nat_tests}
 use Rattle.std.proofs.lemmas.List.{take-append-drop}
@@ -11,11 +11,13 @@ use Rattle.path_text.specs.declared.fault.TargetStop.{TargetStop}
 use Rattle.path_text.specs.declared.fault.TargetStop.TheVariants.{Fault, BadQuery}
 use Rattle.path_text.specs.declared.fault.PathFault.TheVariants.{EmptyName}
 use Rattle.path_text.specs.Texts.{is_byte, is_slash, plain_path}
-use Rattle.path_text.specs.Targets.{SpellsTarget, bad_escape, has_bad_query, is_question_mark, path_piece, query_piece, query_pairs, target_parts, target_path, unless_escape_is_bad, with_query}
+use Rattle.path_text.specs.Targets.{SpellsQueryPart, SpellsTarget, SpellsTargetPath, bad_escape, has_bad_query, is_question_mark, path_piece, query_piece, query_pairs, target_parts, target_path, unless_escape_is_bad, with_query}
 use Rattle.path_text.proofs.WrittenLemmas.{both_parts}
 use Rattle.path_text.proofs.GrammarLemmas.{path_is_spelled}
 use Rattle.path_text.proofs.ReadLemmas.{spelled_is_read}
 use Rattle.path_text.proofs.TokenLemmas.{all_bytes}
+use Rattle.path_text.proofs.FaultLemmas.{begins, slash_of}
+use Rattle.path_text.proofs.QueryLemmas.{no_bad, none_bad, query_part_is, query_part_spelled}
 
 -- ---- bytes decode to bytes
 
@@ -40,17 +42,18 @@ piece_bytes target e =
 
 -- ---- what is spelled is read
 
-spelled_path : (target : List ℕ) (path : List (List ℕ)) (query : List (List ℕ × List ℕ)) → SpellsTarget target path query → target_path target ≡ Ok path
+pub path_is_spelled_there : (target : List ℕ) (path : List (List ℕ)) → SpellsTargetPath target path → target_path target ≡ Ok path
 unfolding target_path
-spelled_path target path query is =
-    rw (is.slash, is.path_escapes) (spelled_is_read (percent_decode (path_piece target)) path is.limits is.spelled)
+path_is_spelled_there target path is =
+    rw (slash_of target is.slash, none_bad (path_piece target) is.escapes) (spelled_is_read (percent_decode (path_piece target)) path is.limits is.spelled)
 
 pub spelled_target_is_read : (target : List ℕ) (path : List (List ℕ)) (query : List (List ℕ × List ℕ)) → SpellsTarget target path query → target_parts target ≡ Ok (path, query)
 unfolding target_parts
 spelled_target_is_read target path query is =
-    ap (λ (r : Result (List (List ℕ)) TargetStop). with_query r (query_piece target)) (spelled_path target path query is)
-    ∙ ap (λ b. cond b (Err BadQuery) (Ok (path, query_pairs (query_piece target)))) is.query_escapes
-    ∙ ap (λ q. Ok (path, q)) (sym is.pairs)
+    let part = query_part_is (query_piece target) query is.query_part in
+    ap (λ (r : Result (List (List ℕ)) TargetStop). with_query r (query_piece target)) (path_is_spelled_there target path is.path_part)
+    ∙ ap (λ b. cond b (Err BadQuery) (Ok (path, query_pairs (query_piece target)))) part.0
+    ∙ ap (λ q. Ok (path, q)) (sym part.1)
 
 -- ---- what is read is spelled
 
@@ -88,19 +91,20 @@ read_slash : (b : Bool) (r : Result (List (List ℕ)) TargetStop) (path : List (
 read_slash true r path e = (refl, e)
 read_slash false r path e = cc
 
-pub target_is_spelled : (target : List ℕ) (path : List (List ℕ)) (query : List (List ℕ × List ℕ)) → list_all is_byte target ≡ true → target_parts target ≡ Ok (path, query) → SpellsTarget target path query
-unfolding target_parts target_path
-target_is_spelled target path query bytes e =
+pub path_there : (target : List ℕ) (path : List (List ℕ)) → list_all is_byte target ≡ true → target_path target ≡ Ok path → SpellsTargetPath target path
+unfolding target_path
+path_there target path bytes e =
     let piece = path_piece target in
-    let parts = read_query (target_path target) (query_piece target) path query e in
-    let slash = read_slash (is_slash (get_or target 0 0)) (unless_escape_is_bad (bad_escape piece) (plain_path (percent_decode piece))) path parts.0 in
+    let slash = read_slash (is_slash (get_or target 0 0)) (unless_escape_is_bad (bad_escape piece) (plain_path (percent_decode piece))) path e in
     let escapes = read_escape (bad_escape piece) (plain_path (percent_decode piece)) path slash.1 in
     let spelled = path_is_spelled (percent_decode piece) path (piece_bytes target bytes) escapes.1 in
+    record { slash = begins target slash.0; escapes = no_bad piece escapes.0; limits = spelled.0; spelled = spelled.1 }
+
+pub target_is_spelled : (target : List ℕ) (path : List (List ℕ)) (query : List (List ℕ × List ℕ)) → list_all is_byte target ≡ true → target_parts target ≡ Ok (path, query) → SpellsTarget target path query
+unfolding target_parts
+target_is_spelled target path query bytes e =
+    let parts = read_query (target_path target) (query_piece target) path query e in
     record {
-      slash = slash.0;
-      path_escapes = escapes.0;
-      limits = spelled.0;
-      spelled = spelled.1;
-      query_escapes = parts.1;
-      pairs = parts.2;
+      path_part = path_there target path bytes parts.0;
+      query_part = subst (SpellsQueryPart (query_piece target)) (sym parts.2) (query_part_spelled (query_piece target) parts.1);
     }

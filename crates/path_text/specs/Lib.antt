@@ -5,3 +5,4 @@ pub mod Queries
 pub mod Texts
 pub mod Targets
 pub mod Tokens
+pub mod Faults

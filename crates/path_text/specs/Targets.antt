@@ -3,7 +3,8 @@ use Rattle.std.specs.Prelude.{ℕ, ◌+◌, ◌<◌, length, ◌≡◌, Bool, tr
 use Rattle.std.specs.List.{slice_split, before_first, after_first, flat_map, join_with_byte}
 use Rattle.std.specs.Char.{is_ascii_hexdigit, is_ascii_alphabetic, is_ascii_digit}
 use Rattle.percent_encoding.specs.Percent.{percent_encode_byte, percent_decode}
-use Rattle.path_text.specs.Texts.{is_slash, plain_path, KeepsLimits, Spells}
+use Rattle.path_text.specs.Texts.{BeginsWithSlash, is_slash, plain_path, KeepsLimits, Spells}
+use Rattle.path_text.specs.Queries.{SpellsQuery, is_ampersand, is_equals}
 use Rattle.path_text.specs.declared.fault.PathFault.TheVariants.{BadEscape, EmptyName}
 use Rattle.path_text.specs.declared.fault.TargetStop.{TargetStop}
 use Rattle.path_text.specs.declared.fault.TargetStop.TheVariants.{Fault, BadQuery}
@@ -25,12 +26,6 @@ pub record IsFirstBadEscape (text : List ℕ) (at : ℕ) : Type 0 where
 
 abbrev pub is_question_mark : ℕ → Bool
 is_question_mark b = b == 63
-
-abbrev pub is_ampersand : ℕ → Bool
-is_ampersand b = b == 38
-
-abbrev pub is_equals : ℕ → Bool
-is_equals b = b == 61
 
 -- the target up to its first `?`
 abbrev pub path_piece : List ℕ → List ℕ
@@ -87,12 +82,24 @@ escaped part = flat_map escaped_byte part
 unfoldable pub written_path : List (List ℕ) → List ℕ
 written_path path = 47 ∷ join_with_byte 47 (map escaped path)
 
--- a target stands for a path and a query: it begins with `/`; what stands before the first `?` has no bad escape and decodes to a text of the
--- path, which keeps the limits; and the query behind the `?`, if there is one, has no bad escape and these pairs
-pub record SpellsTarget (target : List ℕ) (path : List (List ℕ)) (query : List (List ℕ × List ℕ)) : Type 0 where
-  pub slash : is_slash (slice_index target 0) ≡ true
-  pub path_escapes : bad_escape (path_piece target) ≡ None
+-- no place has a `%` without two hex digits behind it
+abbrev pub HasNoBadEscape : List ℕ → Type 0
+HasNoBadEscape text = (at : ℕ) → ¬ (IsFirstBadEscape text at)
+
+-- a target's path: it begins with `/`, and what stands before the first `?` has no bad escape and decodes to a text of the path, which
+-- keeps the limits
+pub record SpellsTargetPath (target : List ℕ) (path : List (List ℕ)) : Type 0 where
+  pub slash : BeginsWithSlash target
+  pub escapes : HasNoBadEscape (path_piece target)
   pub limits : KeepsLimits path
   pub spelled : Spells (percent_decode (path_piece target)) path
-  pub query_escapes : has_bad_query (query_piece target) ≡ false
-  pub pairs : query ≡ query_pairs (query_piece target)
+
+-- what stands behind the first `?` has no bad escape and spells the pairs; without a `?` there are none
+abbrev pub SpellsQueryPart : Option (List ℕ) → List (List ℕ × List ℕ) → Type 0
+SpellsQueryPart None pairs = pairs ≡ []
+SpellsQueryPart (Some query) pairs = HasNoBadEscape query × SpellsQuery query pairs
+
+-- a target stands for a path and the pairs of a query
+pub record SpellsTarget (target : List ℕ) (path : List (List ℕ)) (pairs : List (List ℕ × List ℕ)) : Type 0 where
+  pub path_part : SpellsTargetPath target path
+  pub query_part : SpellsQueryPart (query_piece target) pairs

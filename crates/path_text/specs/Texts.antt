@@ -12,6 +12,10 @@ use Rattle.path_text.specs.declared.fault.TargetStop.TheVariants.{Fault}
 abbrev pub is_slash : ℕ → Bool
 is_slash b = b == 47
 
+-- the text begins with `/`
+abbrev pub BeginsWithSlash : List ℕ → Type 0
+BeginsWithSlash text = (rest : List ℕ) × (text ≡ 47 ∷ rest)
+
 -- a byte that no path has: below 32, and 127
 abbrev pub is_control : ℕ → Bool
 is_control b = nat_lt b 32 || b == 127

@@ -1,7 +1,10 @@
-ghost use Rattle.std.specs.Prelude.{◌≡◌, ◌≢◌, ◌≤◌, ◌<◌, length, count_by, position, IfOk, IfErr};
+ghost use Rattle.std.specs.Prelude.{◌≡◌, ◌≢◌, ◌≤◌, ◌<◌, ℕ, List, length, count_by, position, IfOk, IfErr};
 ghost use Rattle.std.specs.List.{slice_split};
 ghost use Rattle.std.specs.Str.Lossy.{utf8_valid_len};
 ghost use Rattle.path_text.specs.Texts.{KeepsLimits, Spells, inner, is_control, is_dots, is_slash, part_fault, parts_fault, plain_path, size_fault, split_parts, text_fault, without_end};
+ghost use Rattle.path_text.specs.Faults.{Answers, IsPathFault};
+ghost use Rattle.path_text.specs.declared.fault.PathFault.{PathFault};
+ghost use Rattle.path_text.specs.declared.fault.TargetStop.{TargetStop};
 
 use super::fault::{PathFault, TargetStop};
 use super::name::{Name, is_fs_name};
@@ -9,14 +12,27 @@ use super::path::Path;
 use std::alloc::{AllocError, Global};
 use std::str::from_utf8;
 
-/// Reads the text of a path that isn't escaped: `/`, then the parts with `/` between them, and perhaps one `/` at the end. A
-/// refusal is the first fault in this order: no `/` at the front, UTF-8, control bytes, length, depth, then the parts from
-/// the left.
-#[tactic(auto, unfolding(crate::specs::Texts::plain_path))]
+/// Reads the text of a path that isn't escaped: `/`, then the parts with `/` between them, and perhaps one `/` at the end. Any bytes
+/// may be given.
+///
+/// A refusal is the first fault in this order: no `/` at the front, UTF-8, control bytes, length, depth, then the parts from the left,
+/// of which each may be empty, a bad name of a filesystem, `.` or `..`, or too long. `NoMemory` may come at any time; `BadQuery` never
+/// comes.
 pub fn read_plain(alloc: Global, text: &[u8]) -> Result<Path, TargetStop>
     ensures path { IfOk result (λ path. plain_path text.now ≡ Ok path) }
     ensures spelled { IfOk result (λ path. Spells text.now path) }
     ensures limits { IfOk result KeepsLimits }
+    ensures only { (path : List (List ℕ)) → KeepsLimits path → Spells text.now path → Answers result (Ok path) }
+    ensures fault { IfErr result (λ stop. stop ≢ TargetStop.NoMemory → plain_path text.now ≡ Err stop) }
+    ensures cause { (fault : PathFault) → result ≡ Err (TargetStop.Fault fault) → IsPathFault text.now fault }
+    ensures refused { (fault : PathFault) → IsPathFault text.now fault → Answers result (Err (TargetStop.Fault fault)) }
+{
+    path_of_text(alloc, text)
+}
+
+#[tactic(auto, unfolding(crate::specs::Texts::plain_path))]
+fn path_of_text(alloc: Global, text: &[u8]) -> Result<Path, TargetStop>
+    ensures path { IfOk result (λ path. plain_path text.now ≡ Ok path) }
     ensures fault { IfErr result (λ stop. stop ≢ TargetStop.NoMemory → plain_path text.now ≡ Err stop) }
 {
     if let Some(fault) = text_fault(text) {

@@ -1,9 +1,12 @@
-ghost use Rattle.std.specs.Prelude.{◌≡◌, ◌≢◌, ◌==◌, [], ◌∷◌, ◌++◌, map, position, IfOk, IfErr, OnOk, OnErr};
+ghost use Rattle.std.specs.Prelude.{◌≡◌, ◌≢◌, ◌==◌, ℕ, List, [], ◌∷◌, ◌++◌, map, position, IfOk, IfErr, OnOk, OnErr};
 ghost use Rattle.std.specs.List.{after_first, before_first, flat_map, slice_split};
 ghost use Rattle.std.specs.Option.{option_copied};
 ghost use Rattle.std.specs.String.{string_bytes};
+ghost use Rattle.path_text.specs.Faults.{Answers, IsTargetRefused};
+ghost use Rattle.path_text.specs.Queries.{is_ampersand};
 ghost use Rattle.path_text.specs.Texts.{KeepsLimits};
-ghost use Rattle.path_text.specs.Targets.{escaped, has_bad_query, is_ampersand, is_question_mark, pair_of, path_piece, query_pairs, query_piece, target_parts, target_path, written_path};
+ghost use Rattle.path_text.specs.Targets.{SpellsTarget, escaped, has_bad_query, is_question_mark, pair_of, path_piece, query_pairs, query_piece, target_parts, target_path, written_path};
+ghost use Rattle.path_text.specs.declared.fault.TargetStop.{TargetStop};
 
 use super::escape::{bad_escape, decoded, push_escaped};
 use super::fault::{PathFault, TargetStop};
@@ -15,12 +18,25 @@ use std::alloc::{AllocError, Global};
 
 /// Reads the target of a request: a path that ends at the first `?`, and a query behind it. The path is decoded whole as RFC 3986
 /// says, so `%2F` separates its parts like `/`. The query is cut at each `&`, each piece at its first `=`, and then decoded; `+`
-/// stays `+`. Without a `?` there are no pairs. A refusal is the first fault in this order: no `/` at the front, a bad escape,
-/// the faults of `read_plain` on the decoded text, then a bad escape in the query.
-#[tactic(auto, unfolding(crate::specs::Targets::target_parts))]
+/// stays `+`. Without a `?` there are no pairs; an empty query has one pair of empty texts.
+///
+/// A refusal is the first fault in this order: no `/` at the front, a bad escape, the faults of `read_plain` on the decoded text, then
+/// `BadQuery` for a bad escape in the query. `NoMemory` may come at any time.
 pub fn read_target(alloc: Global, target: &[u8]) -> Result<(Path, Query), TargetStop>
     ensures value { IfOk result (λ read. target_parts target.now ≡ Ok read) }
+    ensures spelled { IfOk result (λ read. SpellsTarget target.now read.0 read.1) }
     ensures limits { IfOk result (λ read. KeepsLimits read.0) }
+    ensures only { (path : List (List ℕ)) (pairs : List (List ℕ × List ℕ)) → SpellsTarget target.now path pairs → Answers result (Ok (path, pairs)) }
+    ensures fault { IfErr result (λ stop. stop ≢ TargetStop.NoMemory → target_parts target.now ≡ Err stop) }
+    ensures cause { (stop : TargetStop) → result ≡ Err stop → stop ≢ TargetStop.NoMemory → IsTargetRefused target.now stop }
+    ensures refused { (stop : TargetStop) → IsTargetRefused target.now stop → Answers result (Err stop) }
+{
+    target_parts(alloc, target)
+}
+
+#[tactic(auto, unfolding(crate::specs::Targets::target_parts))]
+fn target_parts(alloc: Global, target: &[u8]) -> Result<(Path, Query), TargetStop>
+    ensures value { IfOk result (λ read. target_parts target.now ≡ Ok read) }
     ensures fault { IfErr result (λ stop. stop ≢ TargetStop.NoMemory → target_parts target.now ≡ Err stop) }
 {
     let path = match target_path(alloc, target) {
@@ -40,7 +56,6 @@ pub fn read_target(alloc: Global, target: &[u8]) -> Result<(Path, Query), Target
 #[tactic(auto, unfolding(crate::specs::Targets::target_path))]
 fn target_path(alloc: Global, target: &[u8]) -> Result<Path, TargetStop>
     ensures value { IfOk result (λ path. target_path target.now ≡ Ok path) }
-    ensures limits { IfOk result KeepsLimits }
     ensures fault { IfErr result (λ stop. stop ≢ TargetStop.NoMemory → target_path target.now ≡ Err stop) }
 {
     if target.is_empty() || target[0] != b'/' {
@@ -155,12 +170,12 @@ fn written_path(alloc: Global, path: &Path) -> Result<String, AllocError>
         return Ok(text);
     };
     push_escaped(&mut text, fs.bytes())?;
-    push_names(&mut text, path.names())?;
+    push_escaped_names(&mut text, path.names())?;
     Ok(text)
 }
 
 // Appends `/` and an escaped name for each of the names.
-fn push_names(text: &mut String, names: &[Name]) -> Result<(), AllocError>
+fn push_escaped_names(text: &mut String, names: &[Name]) -> Result<(), AllocError>
     ensures { OnOk result (string_bytes text.new ≡ string_bytes text.old ++ flat_map (λ name. 47 ∷ escaped name) names.now) }
 {
     for name in names {

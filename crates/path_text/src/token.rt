@@ -24,6 +24,7 @@ pub fn write_token(fs: Option<&FsName>, path: &Path, out: &mut Vec<u8>) -> Resul
     requires { is_on_page (option_copied fs) path.now ≡ true }
     ensures written { OnOk result (out.new.items ≡ out.old.items ++ token_text (option_copied fs.entry) path.now) }
     ensures unchanged { OnErr result (out.new.items ≡ out.old.items) }
+    ensures read_back { KeepsLimits path.now → token_path (option_copied fs.entry) (token_text (option_copied fs.entry) path.now) ≡ Some path.now }
 {
     let alloc = *out.allocator();
     let bytes = token_bytes(alloc, fs, path)?;
@@ -38,6 +39,7 @@ pub fn read_token(
     fs: Option<&FsName>,
     text: &[u8],
 ) -> Result<Option<Path>, AllocError>
+    ensures value { IfOk result (λ found. found ≡ token_path (option_copied fs.entry) text.now) }
     ensures token { IfOk result (λ found. IfSome found (λ path. IsToken (option_copied fs.entry) text.now path)) }
     ensures found { (path : List (List ℕ)) → IsToken (option_copied fs.entry) text.now path → IfOk result (λ found. found ≡ Some path) }
 {

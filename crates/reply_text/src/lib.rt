@@ -22,6 +22,3 @@ mod values;
 pub use last::{Last, last_reply};
 pub use reply::spell;
 pub use slots::{Slots, fill};
-
-#[cfg(test)]
-mod tests;

@@ -1,4 +1,1 @@
-mod acl;
 mod file;
-mod head;
-mod path;

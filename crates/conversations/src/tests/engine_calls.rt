@@ -2,7 +2,6 @@ ghost use Rattle.std.specs.Prelude.{IfOk};
 ghost use Rattle.namespace_model.specs.Built.{IsBuilt};
 ghost use Rattle.namespace_model.specs.Sound.{IsSound};
 
-use super::texts::{CREATED, NOT_BUILT_CLOSING};
 use commit_journal::{Full, Limits};
 use conn_io::LAST_MOMENT;
 use engine::{Answer, Solo, SubmitRefusal};
@@ -14,13 +13,27 @@ use op_decode::decode;
 use std::alloc::{AllocError, Global};
 use std::test::Fail;
 
+const CREATED: &[u8] =
+    b"HTTP/1.1 201 Created\r\nDate: Thu, 01 Jan 1970 00:00:00 GMT\r\nx-ms-request-id: 0000000000000001\r\nx-ms-version: 2020-02-10\r\nETag: \"0x0000000000000001\"\r\nLast-Modified: Thu, 01 Jan 1970 00:00:00 GMT\r\nContent-Length: 0\r\n\r\n";
+
+const NOT_BUILT_CLOSING: &[u8] =
+    b"HTTP/1.1 501 Not Implemented\r\nDate: Thu, 01 Jan 1970 00:00:00 GMT\r\nx-ms-request-id: 0000000000000001\r\nx-ms-version: 2020-02-10\r\nConnection: close\r\nContent-Type: application/json\r\nx-ms-error-code: NotBuiltYet\r\nContent-Length: 76\r\n\r\n{\"error\":{\"code\":\"NotBuiltYet\",\"message\":\"The operation is not built yet.\"}}";
+
 // A request that was refused in decoding, with so many bytes of body.
 fn refused(alloc: Global, body: usize, close: bool) -> Result<Request, AllocError>
     ensures sound { IfOk result (λ request. IsSound request) }
     ensures built { IfOk result (λ request. IsBuilt request) }
 {
     let body = vec![in alloc; 0u8; body]?;
-    Ok(Request {
+    let body = SharedPiece::new(alloc, Piece::new(body))?;
+    Ok(refused_with(body, close))
+}
+
+fn refused_with(body: SharedPiece, close: bool) -> Request
+    ensures sound { IsSound result }
+    ensures built { IsBuilt result }
+{
+    Request {
         caller: None,
         op: Op::Refused(Code::NotBuiltYet),
         cond: Conditions {
@@ -33,84 +46,109 @@ fn refused(alloc: Global, body: usize, close: bool) -> Result<Request, AllocErro
         source_lease: None,
         head: false,
         close,
-        body: SharedPiece::new(alloc, Piece::new(body))?,
-    })
+        body,
+    }
+}
+
+fn solo_of(alloc: Global, journal_max: u64, bytes_max: u64) -> Result<Solo, AllocError> {
+    match Limits::new(1, journal_max, bytes_max, 1) {
+        Some(limits) => Solo::start(alloc, &limits),
+        None => Err(AllocError),
+    }
+}
+
+// Puts a request that was refused in decoding, with so many bytes of body, into the journal.
+fn submit(alloc: Global, solo: &mut Solo, body: usize) -> Result<Result<u64, Full>, AllocError> {
+    let request = refused(alloc, body, false)?;
+    match solo.submit(alloc, 3, 0, request, LAST_MOMENT) {
+        Ok(answer) => Ok(Ok(answer.receipt.number)),
+        Err(SubmitRefusal::Full(full)) => Ok(Err(full)),
+        Err(SubmitRefusal::NoMemory) => Err(AllocError),
+    }
 }
 
 #[test]
 fn a_full_engine_refuses_and_stays(rt: HostRuntime) -> Result<(), Fail> {
     let alloc = rt.alloc();
-    let mut solo = Solo::start(alloc, &Limits::new(1, 1, 4, 1).ok_or("limits")?)?;
-    let too_large = solo.submit(alloc, 0, 0, refused(alloc, 5, false)?, 0);
-    assert!(rt; matches!(too_large, Err(SubmitRefusal::Full(Full::JournalBytesFull))));
-    assert_eq!(rt; solo.journal().len(), 0);
-    let answer = solo
-        .submit(alloc, 3, 0, refused(alloc, 4, false)?, LAST_MOMENT)
-        .ok()
-        .ok_or("an answer")?;
-    assert_eq!(rt; answer.receipt.number, 1);
-    assert_eq!(rt; answer.receipt.rounds, 1);
-    let full = solo.submit(alloc, 0, 1, refused(alloc, 0, false)?, 0);
-    assert!(rt; matches!(full, Err(SubmitRefusal::Full(Full::JournalFull))));
+    let mut solo = solo_of(alloc, 1, 4)?;
+    assert!(rt; matches!(submit(alloc, &mut solo, 5)?, Err(Full::JournalBytesFull)));
+    assert!(rt; matches!(submit(alloc, &mut solo, 4)?, Ok(1)));
+    assert!(rt; matches!(submit(alloc, &mut solo, 0)?, Err(Full::JournalFull)));
     assert_eq!(rt; solo.journal().len(), 1);
     Ok(())
 }
 
+fn text_of(alloc: Global, text: &[u8]) -> Result<Piece, AllocError> {
+    Ok(Piece::new(text.to_vec(alloc)?))
+}
+
+fn caller_of(alloc: Global) -> Result<HeaderList, AllocError> {
+    let mut pairs = Vec::new(alloc);
+    let name = b"X-MS-Caller".as_slice().to_vec(alloc)?;
+    let value = b"$superuser".as_slice().to_vec(alloc)?;
+    pairs.push((name, value))?;
+    Ok(HeaderList::new(pairs))
+}
+
 // A PUT by the superuser, as it was read.
 fn raw_put(alloc: Global, target: &[u8]) -> Result<Raw, AllocError> {
-    let mut pairs = Vec::new(alloc);
-    pairs.push((
-        b"X-MS-Caller".as_slice().to_vec(alloc)?,
-        b"$superuser".as_slice().to_vec(alloc)?,
-    ))?;
+    let method = text_of(alloc, b"PUT")?;
+    let target = text_of(alloc, target)?;
+    let headers = caller_of(alloc)?;
+    let body = SharedPiece::new(alloc, Piece::new(Vec::new(alloc)))?;
     Ok(Raw {
-        method: Piece::new(b"PUT".as_slice().to_vec(alloc)?),
-        target: Piece::new(target.to_vec(alloc)?),
+        method,
+        target,
         minor: 1,
-        headers: HeaderList::new(pairs),
-        body: SharedPiece::new(alloc, Piece::new(Vec::new(alloc)))?,
+        headers,
+        body,
     })
 }
 
-fn put(alloc: Global, solo: &mut Solo, target: &[u8]) -> Result<Answer, Fail> {
-    let request = decode(alloc, &raw_put(alloc, target)?)?;
-    Ok(
-        solo.submit(alloc, 0, 0, request, 0)
-            .ok()
-            .ok_or("an answer")?,
-    )
+fn put(alloc: Global, solo: &mut Solo, target: &[u8]) -> Result<Answer, AllocError> {
+    let raw = raw_put(alloc, target)?;
+    let request = decode(alloc, &raw)?;
+    solo.submit(alloc, 0, 0, request, 0).map_err(|_| AllocError)
+}
+
+// The stripes that an entry shared, and those that it had alone, as bits.
+fn stripes(alloc: Global, solo: &mut Solo, target: &[u8]) -> Result<(u64, u64), AllocError> {
+    let answer = put(alloc, solo, target)?;
+    Ok((answer.receipt.shared, answer.receipt.exclusive))
 }
 
 #[test]
 fn receipts_have_the_stripes_of_their_entries(rt: HostRuntime) -> Result<(), Fail> {
     let alloc = rt.alloc();
-    let mut solo = Solo::start(alloc, &Limits::new(1, 10, 4, 1).ok_or("limits")?)?;
-    let root = put(alloc, &mut solo, b"/data?resource=filesystem")?;
-    assert_eq!(rt; root.bytes.as_slice(), CREATED);
-    assert_eq!(rt; (root.receipt.shared, root.receipt.exclusive), (0, 0b11));
-    let made = put(alloc, &mut solo, b"/data/a/f?resource=file")?;
-    assert_eq!(rt;
-        (made.receipt.shared, made.receipt.exclusive),
-        (0b1, 0b1110)
-    );
-    let again = put(alloc, &mut solo, b"/data/a/f?resource=file")?;
-    assert_eq!(rt; again.receipt.number, 3);
-    assert_eq!(rt; again.receipt.rounds, 1);
-    assert_eq!(rt;
-        (again.receipt.shared, again.receipt.exclusive),
-        (0b11, 0b11100)
-    );
+    let mut solo = solo_of(alloc, 10, 4)?;
+    let root = stripes(alloc, &mut solo, b"/data?resource=filesystem")?;
+    assert_eq!(rt; root, (0, 0b11));
+    let made = stripes(alloc, &mut solo, b"/data/a/f?resource=file")?;
+    assert_eq!(rt; made, (0b1, 0b1110));
+    let again = stripes(alloc, &mut solo, b"/data/a/f?resource=file")?;
+    assert_eq!(rt; again, (0b11, 0b11100));
     Ok(())
 }
 
 #[test]
-fn a_reply_that_ends_its_connection_says_so(rt: HostRuntime) -> Result<(), Fail> {
+fn a_receipt_has_the_number_and_one_round(rt: HostRuntime) -> Result<(), Fail> {
     let alloc = rt.alloc();
-    let mut solo = Solo::start(alloc, &Limits::new(1, 10, 4, 1).ok_or("limits")?)?;
-    let answer = solo
-        .submit(alloc, 0, 0, refused(alloc, 0, true)?, 0)
-        .ok()
-        .ok_or("an answer")?;
+    let mut solo = solo_of(alloc, 10, 4)?;
+    let answer = put(alloc, &mut solo, b"/data?resource=filesystem")?;
+    assert_eq!(rt; answer.bytes.as_slice(), CREATED);
+    assert_eq!(rt; (answer.receipt.number, answer.receipt.rounds), (1, 1));
+    Ok(())
+}
+
+fn closing_answer(alloc: Global) -> Result<Answer, AllocError> {
+    let mut solo = solo_of(alloc, 10, 4)?;
+    let request = refused(alloc, 0, true)?;
+    solo.submit(alloc, 0, 0, request, 0).map_err(|_| AllocError)
+}
+
+#[test]
+fn a_reply_that_ends_its_connection_says_so(rt: HostRuntime) -> Result<(), Fail> {
+    let answer = closing_answer(rt.alloc())?;
     assert_eq!(rt; answer.bytes.as_slice(), NOT_BUILT_CLOSING);
     Ok(())
 }

@@ -1,18 +1,34 @@
-use Rattle.std.proofs.Common.{◌≡◌, ℕ, List, true, sym, ap, subst, ◌∙◌, arith}
+use Rattle.std.proofs.Common.{◌≡◌, ◌≢◌, ℕ, List, true, Ok, Err, IfOk, sym, ap, subst, ◌∙◌, arith}
 use Rattle.std.specs.List.{list_all}
-use Rattle.path_text.specs.Texts.{KeepsLimits, Spells, inner, is_byte, split_parts}
-use Rattle.path_text.proofs.GrammarLemmas.{text_of_path}
+use Rattle.path_text.specs.declared.fault.TargetStop.TheVariants.{Fault, NoMemory}
+use Rattle.path_text.specs.Faults.{Answers}
+use Rattle.path_text.specs.Texts.{is_byte, plain_path}
+use Rattle.path_text.proofs.GrammarLemmas.{path_is_spelled}
+use Rattle.path_text.proofs.ReadLemmas.{spelled_is_read}
+use Rattle.path_text.proofs.RefusalLemmas.{answers_of, ok_as, plain_stopped, plain_stops, stopped_by}
 use Rattle.path_text.proofs.TokenLemmas.{all_bytes}
 use Rattle.path_text.proofs.plain.read_plain.Goals as goal
 
-pub returns-in-Ok-clause-spelled : goal.returns-in-Ok-clause-spelled
-returns-in-Ok-clause-spelled c =
-    let bytes : list_all is_byte c.args.text.now ≡ true = all_bytes c.args.text.now (λ i within. omega (arith, c.type_inv.text i)) in
-    let same : c.in-Ok.path ≡ split_parts (inner c.args.text.now) = c.in-Ok.ensures ∙ ap split_parts c.inner.ensures in
-    subst (λ (p : List (List ℕ)). Spells c.args.text.now p) (sym same) (text_of_path c.args.text.now bytes (sym c.text_fault.ensures ∙ c.in_default.is)).1
+pub returns-clause-spelled : goal.returns-clause-spelled
+returns-clause-spelled c =
+    ok_as c.path_of_text.result _ c.path_of_text.ensures.path
+    (λ path e. (path_is_spelled c.args.text.now path (all_bytes c.args.text.now (λ i within. omega (arith, c.type_inv.text i))) e).1)
 
-pub returns-in-Ok-clause-limits : goal.returns-in-Ok-clause-limits
-returns-in-Ok-clause-limits c =
-    let bytes : list_all is_byte c.args.text.now ≡ true = all_bytes c.args.text.now (λ i within. omega (arith, c.type_inv.text i)) in
-    let same : c.in-Ok.path ≡ split_parts (inner c.args.text.now) = c.in-Ok.ensures ∙ ap split_parts c.inner.ensures in
-    subst KeepsLimits (sym same) (text_of_path c.args.text.now bytes (sym c.text_fault.ensures ∙ c.in_default.is)).0
+pub returns-clause-limits : goal.returns-clause-limits
+returns-clause-limits c =
+    ok_as c.path_of_text.result _ c.path_of_text.ensures.path
+    (λ path e. (path_is_spelled c.args.text.now path (all_bytes c.args.text.now (λ i within. omega (arith, c.type_inv.text i))) e).0)
+
+pub returns-clause-only : goal.returns-clause-only
+returns-clause-only c = λ path limits is.
+    subst (Answers c.path_of_text.result) (spelled_is_read c.args.text.now path limits is)
+    (answers_of c.path_of_text.result (plain_path c.args.text.now) c.path_of_text.ensures.path c.path_of_text.ensures.fault)
+
+pub returns-clause-cause : goal.returns-clause-cause
+returns-clause-cause c = λ fault e.
+    plain_stopped c.args.text.now fault (stopped_by c.path_of_text.result _ (Fault fault) c.path_of_text.ensures.fault e (λ e. cc))
+
+pub returns-clause-refused : goal.returns-clause-refused
+returns-clause-refused c = λ fault h.
+    subst (Answers c.path_of_text.result) (plain_stops c.args.text.now fault h)
+    (answers_of c.path_of_text.result (plain_path c.args.text.now) c.path_of_text.ensures.path c.path_of_text.ensures.fault)

@@ -1,7 +1,8 @@
 use Rattle.std.proofs.Common.{ap, map, ◌∙◌, rules, tests}
 use Rattle.std.proofs.lemmas.Iterator.Splits.{YieldsList-from_slice_split}
 use Rattle.std.proofs.lemmas.Iterator.Consumers.{YieldsList-end}
-use Rattle.path_text.specs.Targets.{is_ampersand, pair_of}
+use Rattle.path_text.specs.Queries.{is_ampersand}
+use Rattle.path_text.specs.Targets.{pair_of}
 use Rattle.path_text.proofs.target.pairs_of.Goals as goal
 
 pub returns : goal.returns

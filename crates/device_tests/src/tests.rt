@@ -1,0 +1,4 @@
+mod ends;
+mod journal;
+mod outside;
+mod reader;

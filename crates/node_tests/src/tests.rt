@@ -1,0 +1,5 @@
+mod changes;
+mod children;
+mod ids;
+mod large;
+mod making;

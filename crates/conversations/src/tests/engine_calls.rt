@@ -14,10 +14,10 @@ use std::alloc::{AllocError, Global};
 use std::test::Fail;
 
 const CREATED: &[u8] =
-    b"HTTP/1.1 201 Created\r\nDate: Thu, 01 Jan 1970 00:00:00 GMT\r\nx-ms-request-id: 0000000000000001\r\nx-ms-version: 2020-02-10\r\nETag: \"0x0000000000000001\"\r\nLast-Modified: Thu, 01 Jan 1970 00:00:00 GMT\r\nContent-Length: 0\r\n\r\n";
+    b"HTTP/1.1 201 Created\r\nDate: Thu, 01 Jan 1970 00:00:00 GMT\r\nx-ms-request-id: 0000000000000001\r\nx-ms-version: 2020-08-04\r\nETag: \"0x0000000000000001\"\r\nLast-Modified: Thu, 01 Jan 1970 00:00:00 GMT\r\nContent-Length: 0\r\n\r\n";
 
 const NOT_BUILT_CLOSING: &[u8] =
-    b"HTTP/1.1 501 Not Implemented\r\nDate: Thu, 01 Jan 1970 00:00:00 GMT\r\nx-ms-request-id: 0000000000000001\r\nx-ms-version: 2020-02-10\r\nConnection: close\r\nContent-Type: application/json\r\nx-ms-error-code: NotBuiltYet\r\nContent-Length: 76\r\n\r\n{\"error\":{\"code\":\"NotBuiltYet\",\"message\":\"The operation is not built yet.\"}}";
+    b"HTTP/1.1 501 Not Implemented\r\nDate: Thu, 01 Jan 1970 00:00:00 GMT\r\nx-ms-request-id: 0000000000000001\r\nx-ms-version: 2020-08-04\r\nConnection: close\r\nContent-Type: application/json\r\nx-ms-error-code: NotBuiltYet\r\nContent-Length: 76\r\n\r\n{\"error\":{\"code\":\"NotBuiltYet\",\"message\":\"The operation is not built yet.\"}}";
 
 // A request that was refused in decoding, with so many bytes of body.
 fn refused(alloc: Global, body: usize, close: bool) -> Result<Request, AllocError>

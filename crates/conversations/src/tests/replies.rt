@@ -66,7 +66,7 @@ fn a_part_of_a_file(rt: HostRuntime) -> Result<(), Fail> {
     let text = text_of(rt.alloc(), &part(rt.alloc())?, 11, false)?;
     assert_eq!(rt;
         text.as_slice(),
-        b"before HTTP/1.1 206 Partial Content\r\nDate: Thu, 01 Jan 1970 00:00:00 GMT\r\nx-ms-request-id: 000000000000000B\r\nx-ms-version: 2020-02-10\r\nETag: \"0x000000000000000A\"\r\nLast-Modified: Sun, 06 Nov 1994 08:49:37 GMT\r\nAccept-Ranges: bytes\r\nContent-Range: bytes 5-9/10\r\nContent-Type: application/octet-stream\r\nx-ms-resource-type: file\r\nx-ms-properties: k=dg==\r\nContent-Length: 5\r\n\r\nworld".as_slice()
+        b"before HTTP/1.1 206 Partial Content\r\nDate: Thu, 01 Jan 1970 00:00:00 GMT\r\nx-ms-request-id: 000000000000000B\r\nx-ms-version: 2020-08-04\r\nETag: \"0x000000000000000A\"\r\nLast-Modified: Sun, 06 Nov 1994 08:49:37 GMT\r\nAccept-Ranges: bytes\r\nContent-Range: bytes 5-9/10\r\nContent-Type: application/octet-stream\r\nx-ms-resource-type: file\r\nx-ms-properties: k=dg==\r\nContent-Length: 5\r\n\r\nworld".as_slice()
     );
     Ok(())
 }
@@ -83,7 +83,7 @@ fn nothing_was_modified(rt: HostRuntime) -> Result<(), Fail> {
     let text = text_of(alloc, &reply, 0xAB, false)?;
     assert_eq!(rt;
         text.as_slice(),
-        b"before HTTP/1.1 304 Not Modified\r\nDate: Thu, 01 Jan 1970 00:00:00 GMT\r\nx-ms-request-id: 00000000000000AB\r\nx-ms-version: 2020-02-10\r\nx-ms-error-code: ConditionNotMet\r\n\r\n".as_slice()
+        b"before HTTP/1.1 304 Not Modified\r\nDate: Thu, 01 Jan 1970 00:00:00 GMT\r\nx-ms-request-id: 00000000000000AB\r\nx-ms-version: 2020-08-04\r\nx-ms-error-code: ConditionNotMet\r\n\r\n".as_slice()
     );
     Ok(())
 }
@@ -119,7 +119,7 @@ fn a_denial(rt: HostRuntime) -> Result<(), Fail> {
     let text = text_of(rt.alloc(), &denial(rt.alloc())?, 5, true)?;
     assert_eq!(rt;
         text.as_slice(),
-        b"before HTTP/1.1 403 Forbidden\r\nDate: Thu, 01 Jan 1970 00:00:00 GMT\r\nx-ms-request-id: 0000000000000005\r\nx-ms-version: 2020-02-10\r\nConnection: close\r\nx-ms-error-code: AuthorizationPermissionMismatch\r\nx-ms-denied-rule: named-user\r\nx-ms-denied-path: /data/f\r\nx-ms-denied-want: -w-\r\nx-ms-denied-have: r--\r\nContent-Length: 0\r\n\r\n".as_slice()
+        b"before HTTP/1.1 403 Forbidden\r\nDate: Thu, 01 Jan 1970 00:00:00 GMT\r\nx-ms-request-id: 0000000000000005\r\nx-ms-version: 2020-08-04\r\nConnection: close\r\nx-ms-error-code: AuthorizationPermissionMismatch\r\nx-ms-denied-rule: named-user\r\nx-ms-denied-path: /data/f\r\nx-ms-denied-want: -w-\r\nx-ms-denied-have: r--\r\nContent-Length: 0\r\n\r\n".as_slice()
     );
     Ok(())
 }
@@ -130,7 +130,7 @@ fn a_busy_service(rt: HostRuntime) -> Result<(), Fail> {
     last_reply(rt.alloc(), Last::Busy, &mut text)?;
     assert_eq!(rt;
         text.as_slice(),
-        b"HTTP/1.1 503 Service Unavailable\r\nx-ms-request-id: 0000000000000000\r\nx-ms-version: 2020-02-10\r\nConnection: close\r\nx-ms-error-code: ServerBusy\r\nContent-Length: 0\r\n\r\n".as_slice()
+        b"HTTP/1.1 503 Service Unavailable\r\nx-ms-request-id: 0000000000000000\r\nx-ms-version: 2020-08-04\r\nConnection: close\r\nx-ms-error-code: ServerBusy\r\nContent-Length: 0\r\n\r\n".as_slice()
     );
     Ok(())
 }

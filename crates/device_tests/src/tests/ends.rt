@@ -9,10 +9,10 @@ const CREATE: &[u8] =
     b"PUT /data?resource=filesystem HTTP/1.1\r\nHost: h\r\nx-ms-caller: $superuser\r\nContent-Length: 0\r\n\r\n";
 
 const CREATED: &[u8] =
-    b"HTTP/1.1 201 Created\r\nDate: Thu, 01 Jan 1970 00:00:00 GMT\r\nx-ms-request-id: 0000000000000001\r\nx-ms-version: 2020-02-10\r\nETag: \"0x0000000000000001\"\r\nLast-Modified: Thu, 01 Jan 1970 00:00:00 GMT\r\nContent-Length: 0\r\n\r\n";
+    b"HTTP/1.1 201 Created\r\nDate: Thu, 01 Jan 1970 00:00:00 GMT\r\nx-ms-request-id: 0000000000000001\r\nx-ms-version: 2020-08-04\r\nETag: \"0x0000000000000001\"\r\nLast-Modified: Thu, 01 Jan 1970 00:00:00 GMT\r\nContent-Length: 0\r\n\r\n";
 
 const EXISTS: &[u8] =
-    b"HTTP/1.1 409 Conflict\r\nDate: Thu, 01 Jan 1970 00:00:00 GMT\r\nx-ms-request-id: 0000000000000002\r\nx-ms-version: 2020-02-10\r\nContent-Type: application/json\r\nx-ms-error-code: FilesystemAlreadyExists\r\nContent-Length: 87\r\n\r\n{\"error\":{\"code\":\"FilesystemAlreadyExists\",\"message\":\"The filesystem already exists.\"}}";
+    b"HTTP/1.1 409 Conflict\r\nDate: Thu, 01 Jan 1970 00:00:00 GMT\r\nx-ms-request-id: 0000000000000002\r\nx-ms-version: 2020-08-04\r\nContent-Type: application/json\r\nx-ms-error-code: FilesystemAlreadyExists\r\nContent-Length: 87\r\n\r\n{\"error\":{\"code\":\"FilesystemAlreadyExists\",\"message\":\"The filesystem already exists.\"}}";
 
 // How a connection ended: the end, how many replies were written whole, how many entries are left, and the bytes that are out.
 #[derive(Drop)]

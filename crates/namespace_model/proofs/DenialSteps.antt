@@ -32,7 +32,7 @@ use Rattle.namespace_model.specs.Nodes.{Node, blank, is_directory, kind_of, has_
 use Rattle.namespace_model.specs.Trees.{Path, Tree, at, node_at, parent, is_bare, is_child, is_below, keys_where, subtree, children}
 use Rattle.namespace_model.specs.Replies.{not_modified}
 use Rattle.namespace_model.specs.Outcomes.{Outcome, reading, answered, refused, unless, noted, within}
-use Rattle.namespace_model.specs.Refusals.{caller_of, or_else, first_refusal, refuse_if, lacks, is_guarded, is_no_superuser, may_not_set_access, may_not_set_owner, may_not_set_group, unmet_for_change, unmet_for_look, is_unmet, is_unmet_look, is_unmet_without, is_taken, stamps_of, code_of_fault, refused_by_lease, lease_refuses}
+use Rattle.namespace_model.specs.Refusals.{caller_of, or_else, first_refusal, refuse_if, lacks, is_guarded, is_no_superuser, may_not_set_access, may_not_set_owner, may_not_set_group, unmet_for_change, unmet_for_look, is_unmet, is_unmet_look, is_unmet_without, exists_already, stamps_of, code_of_fault, refused_by_lease, lease_refuses}
 use Rattle.namespace_model.specs.Walks.{way, walk, entered, passed, missing_below, missing_code}
 use Rattle.namespace_model.specs.Looks.{found}
 use Rattle.namespace_model.specs.Pages.{page_of, above, on_the_way}
@@ -151,8 +151,8 @@ module _ (t : Tree) (e : Entry) (Q : Outcome → Type 0) (law : IsLaw t e Q) whe
   is_unmet_without_asked : Asked Q (is_unmet_without e)
   is_unmet_without_asked = change_asked (conditions_of e.request.cond None)
 
-  is_taken_asked : Asked Q (is_taken e)
-  is_taken_asked = refuse_asked (option_map_or (λ tags. tags.any) e.request.cond.none false) code.PathAlreadyExists refl
+  exists_already_asked : Asked Q (exists_already e)
+  exists_already_asked = refuse_asked (option_map_or (λ tags. tags.any) e.request.cond.none false) code.PathAlreadyExists refl
 
   by_lease_asked : (r : Result Unit LeaseFault) → Asked Q (refused_by_lease r)
   by_lease_asked (Ok allowed) = none_asked
@@ -366,7 +366,7 @@ module _ (t : Tree) (e : Entry) (Q : Outcome → Type 0) (law : IsLaw t e Q) whe
     create_over_holds : (dir y : Node) → at t (parent m.path) ≡ Some dir → at t m.path ≡ Some y → Q (create_over t e m dir y)
     create_over_holds dir y above is =
         unless_holds (is_guarded (caller_of e) dir m.path y) _ (law.sticky dir m.path y is above)
-        (unless_holds (is_taken e) _ is_taken_asked
+        (unless_holds (exists_already e) _ exists_already_asked
         (unless_holds (is_unmet e y) _ (is_unmet_asked y)
         (unless_holds (refuse_if (not (has_kind m.kind y)) code.ResourceTypeMismatch) _ (refuse_asked (not (has_kind m.kind y)) code.ResourceTypeMismatch refl)
         (unless_holds (refuse_if (is_directory y && not (is_bare t m.path)) code.DirectoryNotEmpty) _ (refuse_asked (is_directory y && not (is_bare t m.path)) code.DirectoryNotEmpty refl)
@@ -438,7 +438,7 @@ module _ (t : Tree) (e : Entry) (Q : Outcome → Type 0) (law : IsLaw t e Q) whe
     rename_over_holds : (x dir y : Node) → at t (parent m.path) ≡ Some dir → at t m.path ≡ Some y → Q (rename_over t e m x dir y)
     rename_over_holds x dir y above is =
         unless_holds (is_guarded (caller_of e) dir m.path y) _ (law.sticky dir m.path y is above)
-        (unless_holds (is_taken e) _ is_taken_asked
+        (unless_holds (exists_already e) _ exists_already_asked
         (unless_holds (is_unmet e y) _ (is_unmet_asked y)
         (unless_holds (lease_refuses e e.request.source_lease x) _ (lease_asked e.request.source_lease x)
         (unless_holds (refuse_if (not (has_kind (kind_of x) y)) code.ResourceTypeMismatch) _ (refuse_asked (not (has_kind (kind_of x) y)) code.ResourceTypeMismatch refl)

@@ -12,6 +12,7 @@ use Rattle.namespace_model.specs.Nodes.{Node, Content, file, is_directory, bytes
 use Rattle.namespace_model.specs.Trees.{Path, Tree}
 use Rattle.namespace_model.specs.Effects.{keep}
 use Rattle.namespace_model.specs.Replies.{refusal, success}
+use Rattle.namespace_model.specs.Access.{read_write}
 use Rattle.namespace_model.specs.Outcomes.{Outcome, edited, unless}
 use Rattle.namespace_model.specs.Refusals.{caller_of, lacks, lease_refuses, refuse_if}
 use Rattle.namespace_model.specs.Looks.{found}
@@ -46,7 +47,7 @@ appended e p position x =
 
 abbrev pub append_node : Entry → Path → ℕ → Node → Outcome
 append_node e p position x =
-    unless (lacks (caller_of e) 6 p x)
+    unless (lacks (caller_of e) read_write p x)
     (unless (refuse_if (is_directory x) ResourceTypeMismatch)
     (unless (lease_refuses e e.request.lease x)
     (unless (refused_staging (stage_answer (data_of x.content) position e.request.body))

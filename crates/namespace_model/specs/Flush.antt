@@ -10,6 +10,7 @@ use Rattle.namespace_model.specs.Nodes.{Node, is_directory}
 use Rattle.namespace_model.specs.Trees.{Path, Tree}
 use Rattle.namespace_model.specs.Effects.{stamp}
 use Rattle.namespace_model.specs.Replies.{refusal, success, stamp_fields}
+use Rattle.namespace_model.specs.Access.{read_write}
 use Rattle.namespace_model.specs.Outcomes.{Outcome, edited, unless}
 use Rattle.namespace_model.specs.Refusals.{caller_of, lacks, is_unmet, lease_refuses, refuse_if}
 use Rattle.namespace_model.specs.Looks.{found}
@@ -29,7 +30,7 @@ flushed_to e p position retain x =
 
 abbrev pub flush_node : Entry → Path → ℕ → Bool → Node → Outcome
 flush_node e p position retain x =
-    unless (lacks (caller_of e) 6 p x)
+    unless (lacks (caller_of e) read_write p x)
     (unless (refuse_if (is_directory x) ResourceTypeMismatch)
     (unless (is_unmet e x)
     (unless (lease_refuses e e.request.lease x)

@@ -6,6 +6,7 @@ pub mod Replies
 pub mod Outcomes
 pub mod Access
 pub mod Refusals
+pub mod Ways
 pub mod Walks
 pub mod Looks
 pub mod Pages

@@ -1,5 +1,5 @@
 -- The words of the laws above the table of leases: what a run of calls leaves, and what it is to keep a writer out.
-use Rattle.std.specs.Prelude.{◌≡◌, ℕ, ◌≤◌, List, [], ◌∷◌, Option, Ok, is_ok, if◌then◌else◌}
+use Rattle.std.specs.Prelude.{◌≡◌, ℕ, ◌≤◌, List, [], ◌∷◌, Option, Some, None, Ok, is_ok, if◌then◌else◌}
 use Rattle.std.specs.Result.{result_unwrap_or}
 use Rattle.std.specs.List.{AllByRecursion}
 use Rattle.lease_state.specs.declared.lease.Lease.{Lease}
@@ -60,12 +60,16 @@ IsLeased (lease.Leased id secs until) = Unit {0}
 IsLeased (lease.Breaking id until) = ⊥
 IsLeased (lease.Broken id) = ⊥
 
--- a breaking lease became broken, or has an end that isn't later, and its id stays
+-- a leased lease with an end, or a breaking one, became broken, or breaking with an end that isn't later; its id stays
 abbrev pub EndsNoLater : Lease → Lease → Type 0
 EndsNoLater (lease.Breaking id until) (lease.Breaking id' until') = (id' ≡ id) × (until' ≤ until)
 EndsNoLater (lease.Breaking id until) (lease.Broken id') = id' ≡ id
 EndsNoLater (lease.Breaking id until) lease.Available = ⊥
 EndsNoLater (lease.Breaking id until) (lease.Leased id' secs' until') = ⊥
+EndsNoLater (lease.Leased id (Some secs) until) (lease.Breaking id' until') = (id' ≡ id) × (until' ≤ until)
+EndsNoLater (lease.Leased id (Some secs) until) (lease.Broken id') = id' ≡ id
+EndsNoLater (lease.Leased id (Some secs) until) lease.Available = ⊥
+EndsNoLater (lease.Leased id (Some secs) until) (lease.Leased id' secs' until') = ⊥
+EndsNoLater (lease.Leased id None until) next = ⊥
 EndsNoLater lease.Available next = ⊥
-EndsNoLater (lease.Leased id secs until) next = ⊥
 EndsNoLater (lease.Broken id) next = ⊥

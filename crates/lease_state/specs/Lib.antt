@@ -1,4 +1,5 @@
 pub mod LeaseTable
 pub mod LeaseFaults
+pub mod LeaseAppends
 pub mod LeaseLaws
 pub mod LeaseId

@@ -1,3 +1,6 @@
+ghost use Rattle.std.specs.Prelude.{◌≡◌};
+ghost use Rattle.lease_state.specs.LeaseTable.{kept_id, kept_secs, kept_end};
+
 use thiserror::Error;
 
 /// The greatest moment, in milliseconds since 1970: the last millisecond of the year 9999.
@@ -29,6 +32,38 @@ pub enum Lease {
         /// The id of the lease.
         id: u128,
     },
+}
+
+impl Lease {
+    /// The id that is kept, and 0 where there is no lease.
+    pub fn kept_id(&self) -> u128
+        ensures { result ≡ kept_id self.now }
+    {
+        match *self {
+            Lease::Available => 0,
+            Lease::Leased { id, .. } | Lease::Breaking { id, .. } | Lease::Broken { id } => id,
+        }
+    }
+
+    /// The duration that is kept, in seconds: none of an infinite lease, and none but of an acquired one.
+    pub fn kept_secs(&self) -> Option<u8>
+        ensures { result ≡ kept_secs self.now }
+    {
+        match *self {
+            Lease::Leased { secs, .. } => secs,
+            Lease::Available | Lease::Breaking { .. } | Lease::Broken { .. } => None,
+        }
+    }
+
+    /// The end that is kept, in milliseconds since 1970, and 0 where none is.
+    pub fn kept_end(&self) -> u64
+        ensures { result ≡ kept_end self.now }
+    {
+        match *self {
+            Lease::Leased { until, .. } | Lease::Breaking { until, .. } => until,
+            Lease::Available | Lease::Broken { .. } => 0,
+        }
+    }
 }
 
 /// The state of a lease at a moment.
@@ -77,6 +112,31 @@ pub enum LeaseAction {
     Break {
         /// The period in seconds, where one is asked for.
         period: Option<u8>,
+    },
+}
+
+/// What an append does with the lease of its file.
+#[derive(Clone, Copy, Debug, PartialEq, Eq)]
+pub enum AppendLease {
+    /// Nothing but what each write does.
+    Plain,
+    /// Takes a lease, which the caller keeps.
+    Acquire {
+        /// The id that the lease is to have.
+        proposed: u128,
+        /// The duration in seconds, and none for an infinite lease.
+        secs: Option<u8>,
+    },
+    /// Writes under the id that the caller gives, and lets the lease begin anew.
+    AutoRenew,
+    /// Writes under the id that the caller gives, and gives the lease back.
+    Release,
+    /// Takes a lease for this append alone, and leaves none.
+    AcquireRelease {
+        /// The id that the lease is to have.
+        proposed: u128,
+        /// The duration in seconds, and none for an infinite lease.
+        secs: Option<u8>,
     },
 }
 

@@ -65,7 +65,7 @@ pub fn may_write(lease: &Lease, given: Option<u128>, now: u64) -> Result<(), Lea
     match (state_at(lease, now), given) {
         (State::Leased | State::Breaking, None) => Err(LeaseFault::LeaseIdMissing),
         (State::Leased | State::Breaking, Some(id)) => {
-            if id == id_in(lease) {
+            if id == lease.kept_id() {
                 Ok(())
             } else {
                 Err(LeaseFault::LeaseIdMismatchWithBlobOperation)
@@ -87,36 +87,6 @@ pub fn after_write(lease: &Lease, now: u64) -> Lease
     }
 }
 
-// The id that is kept.
-fn id_in(lease: &Lease) -> u128
-    ensures { result ≡ kept_id lease.now }
-{
-    match *lease {
-        Lease::Available => 0,
-        Lease::Leased { id, .. } | Lease::Breaking { id, .. } | Lease::Broken { id } => id,
-    }
-}
-
-// The duration that is kept, in seconds.
-fn secs_in(lease: &Lease) -> Option<u8>
-    ensures { result ≡ kept_secs lease.now }
-{
-    match *lease {
-        Lease::Leased { secs, .. } => secs,
-        Lease::Available | Lease::Breaking { .. } | Lease::Broken { .. } => None,
-    }
-}
-
-// The end that is kept.
-fn end_in(lease: &Lease) -> u64
-    ensures { result ≡ kept_end lease.now }
-{
-    match *lease {
-        Lease::Leased { until, .. } | Lease::Breaking { until, .. } => until,
-        Lease::Available | Lease::Broken { .. } => 0,
-    }
-}
-
 // A lease that begins now.
 fn lease_from(id: u128, secs: Option<u8>, now: u64) -> Lease
     requires { now ≤ LAST_MOMENT }
@@ -133,7 +103,7 @@ fn acquire(lease: &Lease, proposed: u128, secs: Option<u8>, now: u64) -> Result<
     requires { now ≤ LAST_MOMENT }
     ensures { result ≡ acquired (lease_state lease.now now) (kept_id lease.now) proposed secs now }
 {
-    let is_kept = proposed == id_in(lease);
+    let is_kept = proposed == lease.kept_id();
     match state_at(lease, now) {
         State::Breaking if is_kept => Err(LeaseFault::LeaseIsBreakingAndCannotBeAcquired),
         State::Breaking => Err(LeaseFault::LeaseAlreadyPresent),
@@ -148,11 +118,11 @@ fn renew(lease: &Lease, given: u128, now: u64) -> Result<Lease, LeaseFault>
     requires { now ≤ LAST_MOMENT }
     ensures { result ≡ renewed (lease_state lease.now now) (kept_id lease.now) given (kept_secs lease.now) now }
 {
-    let kept = id_in(lease);
+    let kept = lease.kept_id();
     match state_at(lease, now) {
         State::Available => Err(LeaseFault::LeaseNotPresentWithLeaseOperation),
         _ if given != kept => Err(LeaseFault::LeaseIdMismatchWithLeaseOperation),
-        State::Leased | State::Expired => Ok(lease_from(kept, secs_in(lease), now)),
+        State::Leased | State::Expired => Ok(lease_from(kept, lease.kept_secs(), now)),
         State::Breaking | State::Broken => Err(LeaseFault::LeaseIsBrokenAndCannotBeRenewed),
     }
 }
@@ -160,12 +130,12 @@ fn renew(lease: &Lease, given: u128, now: u64) -> Result<Lease, LeaseFault>
 fn change(lease: &Lease, given: u128, proposed: u128, now: u64) -> Result<Lease, LeaseFault>
     ensures { result ≡ changed (lease_state lease.now now) (kept_id lease.now) given proposed (kept_secs lease.now) (kept_end lease.now) }
 {
-    let kept = id_in(lease);
+    let kept = lease.kept_id();
     match state_at(lease, now) {
         State::Leased if given == kept || proposed == kept => Ok(Lease::Leased {
             id: proposed,
-            secs: secs_in(lease),
-            until: end_in(lease),
+            secs: lease.kept_secs(),
+            until: lease.kept_end(),
         }),
         State::Leased => Err(LeaseFault::LeaseIdMismatchWithLeaseOperation),
         State::Breaking if given == kept => Err(LeaseFault::LeaseIsBreakingAndCannotBeChanged),
@@ -181,7 +151,7 @@ fn release(lease: &Lease, given: u128, now: u64) -> Result<Lease, LeaseFault>
 {
     match state_at(lease, now) {
         State::Available => Err(LeaseFault::LeaseNotPresentWithLeaseOperation),
-        _ if given == id_in(lease) => Ok(Lease::Available),
+        _ if given == lease.kept_id() => Ok(Lease::Available),
         _ => Err(LeaseFault::LeaseIdMismatchWithLeaseOperation),
     }
 }
@@ -190,11 +160,11 @@ fn break_lease(lease: &Lease, period: Option<u8>, now: u64) -> Result<Lease, Lea
     requires { now ≤ LAST_MOMENT }
     ensures { result ≡ broken (lease_state lease.now now) (kept_id lease.now) (kept_secs lease.now) (kept_end lease.now) period now }
 {
-    let id = id_in(lease);
+    let id = lease.kept_id();
     match state_at(lease, now) {
         State::Available => Err(LeaseFault::LeaseNotPresentWithLeaseOperation),
         State::Leased => {
-            let left = time_left(secs_in(lease), end_in(lease), period, now);
+            let left = time_left(lease.kept_secs(), lease.kept_end(), period, now);
             if left == 0 {
                 Ok(Lease::Broken { id })
             } else {
@@ -205,7 +175,7 @@ fn break_lease(lease: &Lease, period: Option<u8>, now: u64) -> Result<Lease, Lea
             }
         }
         State::Breaking => {
-            let until = earlier_end(end_in(lease), period, now);
+            let until = earlier_end(lease.kept_end(), period, now);
             if until <= now {
                 Ok(Lease::Broken { id })
             } else {

@@ -4,9 +4,11 @@ use Rattle.file_data.specs.declared.fault.DataFault.{DataFault}
 use Rattle.file_data.specs.declared.fault.DataFault.TheVariants.{BelowLength, TooLarge}
 use Rattle.file_data.specs.Staging.{pieces_below, pieces_from, bytes_of, with_piece, Ascends, Covers, first_trouble}
 
--- the committed bytes, the staged pieces, and how many calls of stage and of flush there is room for
+-- the committed bytes, the extents that they lie in, the staged pieces, and how many calls of stage and of flush there
+-- is room for
 pub record FileRecord : Type 0 where
   pub committed : List ℕ
+  pub extents : List (ℕ × List ℕ)
   pub staged : List (ℕ × List ℕ)
   pub stage_room : ℕ
   pub flush_room : ℕ
@@ -27,11 +29,36 @@ pub record IsFile (committed : List ℕ) (staged : List (ℕ × List ℕ)) : Typ
   pub ascends : Ascends staged
   pub pieces : All (IsStagedPiece (length committed)) staged
 
--- the same committed bytes and the same staged pieces, whatever the room
-abbrev pub SameButRoom : FileRecord → FileRecord → Type 0
-SameButRoom old new = (new.committed ≡ old.committed) × (new.staged ≡ old.staged)
+-- how bytes lie in extents: none is empty, they lie end to end from 0 to the length, and their bytes are the bytes
+pub record AreExtents (committed : List ℕ) (extents : List (ℕ × List ℕ)) : Type 0 where
+  pub filled : All (λ (extent : ℕ × List ℕ). 0 < length extent.1) extents
+  pub cover : Covers extents 0 (length committed)
+  pub bytes : committed ≡ bytes_of extents
 
--- the same bytes and pieces, and no less room
+-- bytes in one extent, or in none where there are none
+abbrev pub one_extent : List ℕ → List (ℕ × List ℕ)
+one_extent [] = []
+one_extent (byte ∷ bytes) = (0, byte ∷ bytes) ∷ []
+
+-- a file with these bytes, in one extent, and these staged pieces, without room
+abbrev pub file_of : List ℕ → List (ℕ × List ℕ) → FileRecord
+file_of bytes staged = record {
+  committed = bytes;
+  extents = one_extent bytes;
+  staged = staged;
+  stage_room = 0;
+  flush_room = 0;
+}
+
+-- a file with nothing in it, without room
+abbrev pub bare_file : FileRecord
+bare_file = file_of [] []
+
+-- the same committed bytes in the same extents and the same staged pieces, whatever the room
+abbrev pub SameButRoom : FileRecord → FileRecord → Type 0
+SameButRoom old new = (new.committed ≡ old.committed) × (new.extents ≡ old.extents) × (new.staged ≡ old.staged)
+
+-- the same bytes, extents and pieces, and no less room
 abbrev pub OnlyGainsRoom : FileRecord → FileRecord → Type 0
 OnlyGainsRoom old new = SameButRoom old new × (old.stage_room ≤ new.stage_room) × (old.flush_room ≤ new.flush_room)
 
@@ -61,10 +88,34 @@ flush_answer f position =
     if nat_lt position (length f.committed) then Err BelowLength
     else refusal (first_trouble (pieces_below f.staged position) (length f.committed) position)
 
--- the file after an allowed flush: the pieces below are appended, and the rest is kept or dropped
+-- the file after an allowed flush: the pieces below are appended, each an extent, and the rest is kept or dropped
 abbrev pub flushed : FileRecord → ℕ → Bool → FileRecord
 flushed f position retain =
     record f {
       committed = f.committed ++ bytes_of (pieces_below f.staged position);
+      extents = f.extents ++ pieces_below f.staged position;
       staged = if retain then pieces_from f.staged position else [];
     }
+
+-- where a piece ends that is put at a position
+abbrev pub end_at : ℕ → List ℕ → ℕ
+end_at position bytes = position + length bytes
+
+-- an append with flush is a stage and then a flush to the end of the piece; it is allowed where both are
+abbrev pub CanAppendFlush : FileRecord → ℕ → List ℕ → Type 0
+CanAppendFlush f position bytes =
+    (stage_answer f position bytes ≡ Ok tt) × CanFlush (staged_with f position bytes) (end_at position bytes)
+
+-- the second answer, where the first one allows it
+abbrev pub and_then : Result Unit DataFault → Result Unit DataFault → Result Unit DataFault
+and_then (Ok _) second = second
+and_then (Err fault) second = Err fault
+
+-- whether an append with flush is allowed, or the fault of the stage, else that of the flush after it
+abbrev pub append_flush_answer : FileRecord → ℕ → List ℕ → Result Unit DataFault
+append_flush_answer f position bytes =
+    and_then (stage_answer f position bytes) (flush_answer (staged_with f position bytes) (end_at position bytes))
+
+-- the file after an allowed append with flush
+abbrev pub append_flushed : FileRecord → ℕ → List ℕ → Bool → FileRecord
+append_flushed f position bytes retain = flushed (staged_with f position bytes) (end_at position bytes) retain

@@ -3,3 +3,4 @@ pub mod FileRecord
 pub mod Troubles
 pub mod FileInside
 pub mod Orders
+pub mod Extents

@@ -170,7 +170,7 @@ module _ (s t : Tree) (laid_s : IsLaid s) (laid_t : IsLaid t) where
   pub found_same : (e : Entry) (p : Path) (f g : Node → Outcome) → ((x : Node) → Alike s t p → AlikeOn (f x) → f x ≡ g x)
       → AlikeOn (found s e p f) → found s e p f ≡ found t e p g
   found_same e p f g same =
-      walk_same (caller_of e) PathNotFound p _ _ (λ dir up. noted_same p (refused (missing_code p PathNotFound)) (refused (missing_code p PathNotFound)) f g (shown_from_parent p up) (λ k. refl) (λ x alike is. same x alike))
+      walk_same (caller_of e) PathNotFound p (λ dir. noted (at s p) p (refused (missing_code p PathNotFound)) f) (λ dir. noted (at t p) p (refused (missing_code p PathNotFound)) g) (λ dir up. noted_same p (refused (missing_code p PathNotFound)) (refused (missing_code p PathNotFound)) f g (shown_from_parent p up) (λ k. refl) (λ x alike is. same x alike))
 
   -- the children of a path that is alike
   pub children_same : (d : Path) → Alike s t d → keys_where s (is_child d) ≡ keys_where t (is_child d)

@@ -2,12 +2,13 @@
 use Rattle.std.proofs.Common.{◌≡◌, inl, inr, ℕ, Bool, true, false, not, ◌&&◌, List, [], ◌∷◌, ◌++◌, length, drop, map, take, Option, Some, None, is_some, Result, Ok, Err, refl, sym, subst}
 use Rattle.acl_text.specs.declared.acl.AclPair.{AclPair}
 use Rattle.acl_text.specs.declared.acl.AclFault.{AclFault}
-use Rattle.file_data.specs.FileRecord.{stage_answer, flush_answer}
+use Rattle.file_data.specs.FileRecord.{stage_answer, flush_answer, append_flush_answer}
 use Rattle.head_text.specs.declared.range.Range.{Range}
 use Rattle.lease_state.specs.declared.lease.Lease.{Lease}
 use Rattle.lease_state.specs.declared.lease.LeaseAction.{LeaseAction}
 use Rattle.lease_state.specs.declared.lease.LeaseFault.{LeaseFault}
 use Rattle.lease_state.specs.LeaseTable.{lease_act}
+use Rattle.lease_state.specs.LeaseAppends.{lease_act_append}
 use Rattle.path_text.specs.Paths.{is_prefix}
 use Rattle.namespace_model.specs.declared.code.Code.{Code}
 use Rattle.namespace_model.specs.declared.code.Code.TheVariants as code
@@ -36,8 +37,9 @@ use Rattle.namespace_model.specs.ReadFile.{read_file, read_node, bytes_read}
 use Rattle.namespace_model.specs.GetProperties.{get_properties, properties_shown}
 use Rattle.namespace_model.specs.GetAccess.{get_access, access_shown}
 use Rattle.namespace_model.specs.CheckAccess.{check_access}
-use Rattle.namespace_model.specs.Append.{append, appended, data_of, refused_staging}
-use Rattle.namespace_model.specs.Flush.{flush, flushed_to, refused_flush}
+use Rattle.namespace_model.specs.Append.{Appending, append, append_data, appended, refused_flush_too, under_lease}
+use Rattle.namespace_model.specs.Contents.{data_of, refused_staging, refused_flush}
+use Rattle.namespace_model.specs.Flush.{flush, flushed_to}
 use Rattle.namespace_model.specs.SetProperties.{set_properties, properties_set}
 use Rattle.namespace_model.specs.SetAccess.{Setting, set_access, access_put, pair_set, has_default}
 use Rattle.namespace_model.specs.SetAccessRecursive.{set_access_recursive, batch_below, batch_page, batch_of, batched}
@@ -146,14 +148,19 @@ check_access_closed e p want = closed_whole (λ t. check_access t e p want) (λ 
     unless_closed S (is_unmet_look e x) _
     (unless_closed S (lacks (caller_of e) want p x) _ (answered_closed _ _))))
 
-pub append_closed : (e : Entry) (p : Path) (position : ℕ) → IsClosed (λ t. append t e p position)
+under_lease_closed : (S : Path → Type 0) (answer : Result Lease LeaseFault) (next : Lease → Outcome) → ((after : Lease) → Closed S (next after)) → Closed S (under_lease answer next)
+under_lease_closed S (Err f) next h = answered_closed S _
+under_lease_closed S (Ok after) next h = h after
+
+pub append_closed : (e : Entry) (p : Path) (a : Appending) → IsClosed (λ t. append t e p a)
 unfolding append
-append_closed e p position = closed_whole (λ t. append t e p position) (λ t laid. found_closed Unseen t e p _ (λ S keeps here x.
+append_closed e p a = closed_whole (λ t. append t e p a) (λ t laid. found_closed Unseen t e p _ (λ S keeps here x.
     unless_closed S (lacks (caller_of e) 6 p x) _
     (unless_closed S (refuse_if (is_directory x) code.ResourceTypeMismatch) _
-    (unless_closed S (lease_refuses e e.request.lease x) _
-    (unless_closed S (refused_staging (stage_answer (data_of x.content) position e.request.body)) (appended e p position x)
-    (edited_closed S p _ _ here))))))
+    (under_lease_closed S (lease_act_append x.lease a.action e.request.lease e.moment) (append_data e p a x) (λ after.
+    unless_closed S (refused_staging (stage_answer (data_of x.content) a.position e.request.body)) _
+    (unless_closed S (refused_flush_too a.flush (append_flush_answer (data_of x.content) a.position e.request.body)) (appended e p a x after)
+    (edited_closed S p _ _ here)))))))
 
 pub flush_closed : (e : Entry) (p : Path) (position : ℕ) (retain : Bool) → IsClosed (λ t. flush t e p position retain)
 unfolding flush
@@ -393,7 +400,8 @@ acts_closed e (op.Read path range) = read_file_closed e path range
 acts_closed e (op.GetProperties path status) = get_properties_closed e path status
 acts_closed e (op.GetAccess path) = get_access_closed e path
 acts_closed e (op.CheckAccess path want) = check_access_closed e path want
-acts_closed e (op.Append path position) = append_closed e path position
+acts_closed e (op.Append path position flush retain action) =
+    append_closed e path (record { position = position; flush = flush; retain = retain; action = action })
 acts_closed e (op.Flush path position retain) = flush_closed e path position retain
 acts_closed e (op.SetProperties path props) = set_properties_closed e path props
 acts_closed e (op.SetAccess path owner group permissions acl) =

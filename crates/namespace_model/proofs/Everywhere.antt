@@ -1,5 +1,7 @@
 -- What holds of each outcome that a step can come to.
-use Rattle.std.proofs.Common.{◌≡◌, Bool, true, false, List, [], ◌∷◌, Option, Some, None, refl}
+use Rattle.std.proofs.Common.{◌≡◌, Bool, true, false, List, [], ◌∷◌, Option, Some, None, Result, Ok, Err, refl}
+use Rattle.lease_state.specs.declared.lease.Lease.{Lease}
+use Rattle.lease_state.specs.declared.lease.LeaseFault.{LeaseFault}
 use Rattle.namespace_model.specs.declared.caller.Caller.{Caller}
 use Rattle.namespace_model.specs.declared.code.Code.{Code}
 use Rattle.namespace_model.specs.declared.code.Code.TheVariants.{PathNotFound}
@@ -8,7 +10,8 @@ use Rattle.namespace_model.specs.declared.request.Entry.{Entry}
 use Rattle.namespace_model.specs.Nodes.{Node}
 use Rattle.namespace_model.specs.Trees.{Path, Tree, at, node_at, parent, IsDirectoryAt}
 use Rattle.namespace_model.specs.Replies.{refusal, denial}
-use Rattle.namespace_model.specs.Refusals.{caller_of, refuse_if}
+use Rattle.namespace_model.specs.Refusals.{caller_of, code_of_fault, refuse_if}
+use Rattle.namespace_model.specs.Append.{under_lease}
 use Rattle.namespace_model.specs.Outcomes.{Outcome, reading, answered, refused, unless, noted}
 use Rattle.namespace_model.specs.Walks.{walk_or, walk, ended, missing_below, missing_code}
 use Rattle.namespace_model.specs.Ways.{Way, reached, missing, blocked, closed, way_of, read_on}
@@ -24,6 +27,10 @@ module _ (P : Outcome → Type 0) (quiet : (reply : Reply) → P (answered reply
   pub unless_if_has : (b : Bool) (code : Code) (o : Outcome) → (b ≡ false → P o) → P (unless (refuse_if b code) o)
   unless_if_has true code o h = quiet (refusal code)
   unless_if_has false code o h = h refl
+
+  pub under_lease_has : (answer : Result Lease LeaseFault) (next : Lease → Outcome) → ((after : Lease) → P (next after)) → P (under_lease answer next)
+  under_lease_has (Err f) next h = quiet (refusal (code_of_fault f))
+  under_lease_has (Ok after) next h = h after
 
   pub noted_has : (u : Option Node) (p : Path) (none : Outcome) (some : Node → Outcome) → (u ≡ None → P none) → ((x : Node) → u ≡ Some x → P (some x)) → P (noted u p none some)
   noted_has None p none some h k = h refl
@@ -53,4 +60,4 @@ module _ (P : Outcome → Type 0) (quiet : (reply : Reply) → P (answered reply
 
   pub found_has : (t : Tree) (e : Entry) (p : Path) (some : Node → Outcome) → IsDirectoryAt t [] → ((x : Node) → at t p ≡ Some x → P (some x)) → P (found t e p some)
   found_has t e p some root h =
-      walk_has t (caller_of e) PathNotFound p _ root (λ up. noted_has (at t p) p (refused (missing_code p PathNotFound)) some (λ k. quiet (refusal (missing_code p PathNotFound))) h)
+      walk_has t (caller_of e) PathNotFound p (λ dir. noted (at t p) p (refused (missing_code p PathNotFound)) some) root (λ up. noted_has (at t p) p (refused (missing_code p PathNotFound)) some (λ k. quiet (refusal (missing_code p PathNotFound))) h)

@@ -23,7 +23,7 @@ use Rattle.namespace_model.specs.ReadFile.{read_file}
 use Rattle.namespace_model.specs.GetProperties.{get_properties}
 use Rattle.namespace_model.specs.GetAccess.{get_access}
 use Rattle.namespace_model.specs.CheckAccess.{check_access}
-use Rattle.namespace_model.specs.Append.{append}
+use Rattle.namespace_model.specs.Append.{Appending, append}
 use Rattle.namespace_model.specs.Flush.{flush}
 use Rattle.namespace_model.specs.SetProperties.{set_properties}
 use Rattle.namespace_model.specs.SetAccess.{Setting, set_access}
@@ -88,9 +88,9 @@ pub check_access_local : (e : Entry) (p : Path) (want : ℕ) → IsLocal (λ t. 
 unfolding check_access
 check_access_local e p want s t laid_s laid_t = found_same s t laid_s laid_t e p _ _ (λ x alike h. refl)
 
-pub append_local : (e : Entry) (p : Path) (position : ℕ) → IsLocal (λ t. append t e p position)
+pub append_local : (e : Entry) (p : Path) (a : Appending) → IsLocal (λ t. append t e p a)
 unfolding append
-append_local e p position s t laid_s laid_t = found_same s t laid_s laid_t e p _ _ (λ x alike h. refl)
+append_local e p a s t laid_s laid_t = found_same s t laid_s laid_t e p _ _ (λ x alike h. refl)
 
 pub flush_local : (e : Entry) (p : Path) (position : ℕ) (retain : Bool) → IsLocal (λ t. flush t e p position retain)
 unfolding flush

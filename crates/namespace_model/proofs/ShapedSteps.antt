@@ -11,8 +11,9 @@ use Rattle.head_text.specs.declared.range.Range.{Range}
 use Rattle.lease_state.specs.declared.lease.Lease.{Lease}
 use Rattle.lease_state.specs.declared.lease.LeaseAction.{LeaseAction}
 use Rattle.lease_state.specs.declared.lease.LeaseFault.{LeaseFault}
+use Rattle.lease_state.specs.LeaseAppends.{lease_act_append}
 use Rattle.lease_state.specs.LeaseTable.{lease_act, lease_after_write}
-use Rattle.file_data.specs.FileRecord.{stage_answer, flush_answer}
+use Rattle.file_data.specs.FileRecord.{stage_answer, flush_answer, append_flush_answer}
 use Rattle.path_text.specs.Paths.{path_cmp, is_prefix}
 use Rattle.path_text.specs.Texts.{KeepsLimits}
 use Rattle.namespace_model.specs.declared.code.Code.{Code}
@@ -43,8 +44,9 @@ use Rattle.namespace_model.specs.ReadFile.{read_file, read_node, bytes_read, par
 use Rattle.namespace_model.specs.GetProperties.{get_properties, properties_of, properties_shown}
 use Rattle.namespace_model.specs.GetAccess.{get_access, access_of, access_shown}
 use Rattle.namespace_model.specs.CheckAccess.{check_access, checked_on}
-use Rattle.namespace_model.specs.Append.{append, append_node, appended, refused_staging, data_of}
-use Rattle.namespace_model.specs.Flush.{flush, flush_node, flushed_to, refused_flush}
+use Rattle.namespace_model.specs.Append.{Appending, append, append_node, append_data, append_put, appended, appended_node, refused_flush_too}
+use Rattle.namespace_model.specs.Contents.{data_of, refused_staging, refused_flush}
+use Rattle.namespace_model.specs.Flush.{flush, flush_node, flushed_to}
 use Rattle.namespace_model.specs.SetProperties.{set_properties, set_properties_of, properties_set}
 use Rattle.namespace_model.specs.SetAccess.{Setting, set_access, set_access_of, access_put, pair_set, has_default, sticky_set}
 use Rattle.namespace_model.specs.LeaseNode.{act_on_lease, lease_node, lease_put}
@@ -54,7 +56,7 @@ use Rattle.namespace_model.proofs.Lookups.{keys_among, path_from_eq}
 use Rattle.namespace_model.proofs.Prefixes.{parent_name}
 use Rattle.namespace_model.proofs.Alikeness.{nothing_below}
 use Rattle.namespace_model.proofs.PageLooks.{above_keys, over_test}
-use Rattle.namespace_model.proofs.Everywhere.{unless_has, unless_if_has, noted_has, walk_or_has, walk_has, found_has}
+use Rattle.namespace_model.proofs.Everywhere.{under_lease_has, unless_has, unless_if_has, noted_has, walk_or_has, walk_has, found_has}
 use Rattle.namespace_model.proofs.Effected.{drop_front}
 use Rattle.namespace_model.proofs.ShapedEdits.{none_some, still_shape, edit_shape, edits_shaped, gone_shaped, nothing_under}
 use Rattle.namespace_model.proofs.ShapedMaking.{made_shaped, nothing_replaced, one_replaced, IsReplaced, paths_of}
@@ -194,12 +196,19 @@ module _ (t : Tree) (is : IsTree t) (e : Entry) where
 
   -- ---- edits
 
-  pub append_shaped : (p : Path) (position : ℕ) → IsShaped t (append t e p position)
+  pub append_shaped : (p : Path) (a : Appending) → IsShaped t (append t e p a)
   unfolding append
-  append_shaped p position =
-      at_node p (append_node e p position) (λ x h.
+  append_shaped p a =
+      at_node p (append_node e p a) (λ x h.
       go (lacks (caller_of e) 6 p x) _ (if (is_directory x) code.ResourceTypeMismatch _ (λ file.
-      go (lease_refuses e e.request.lease x) _ (go (refused_staging (stage_answer (data_of x.content) position e.request.body)) (appended e p position x) (edit_shape t p _ x h (sym file))))))
+      under_lease_has (IsShaped t) quiet read (lease_act_append x.lease a.action e.request.lease e.moment) (append_data e p a x) (λ after.
+      go (refused_staging (stage_answer (data_of x.content) a.position e.request.body)) _
+      (go (refused_flush_too a.flush (append_flush_answer (data_of x.content) a.position e.request.body)) (appended e p a x after)
+      (edit_shape t p (append_put a.flush e.moment (appended_node e a x after)) x h (still_a_file a.flush (appended_node e a x after) refl ∙ sym file)))))))
+    where
+      still_a_file : (flush : Bool) (y : Node) → is_directory y ≡ false → is_directory (append_put flush e.moment y).node ≡ false
+      still_a_file true y same = same
+      still_a_file false y same = same
 
   pub flush_shaped : (p : Path) (position : ℕ) (retain : Bool) → IsShaped t (flush t e p position retain)
   unfolding flush

@@ -8,10 +8,12 @@ use Rattle.acl_text.specs.declared.acl.AclPair.{AclPair}
 use Rattle.acl_text.specs.declared.acl.AclFault.{AclFault}
 use Rattle.acl_text.specs.declared.perm.ModeBits.{ModeBits}
 use Rattle.head_text.specs.declared.range.Range.{Range}
-use Rattle.file_data.specs.FileRecord.{stage_answer, flush_answer}
+use Rattle.file_data.specs.FileRecord.{stage_answer, flush_answer, append_flush_answer}
 use Rattle.lease_state.specs.declared.lease.Lease.{Lease}
 use Rattle.lease_state.specs.declared.lease.LeaseAction.{LeaseAction}
 use Rattle.lease_state.specs.declared.lease.LeaseFault.{LeaseFault}
+use Rattle.lease_state.specs.declared.lease.AppendLease.{AppendLease}
+use Rattle.lease_state.specs.LeaseAppends.{lease_act_append}
 use Rattle.lease_state.specs.LeaseTable.{lease_act, lease_after_write}
 use Rattle.path_text.specs.Paths.{path_cmp}
 use Rattle.namespace_model.specs.declared.code.Code.{Code}
@@ -44,15 +46,16 @@ use Rattle.namespace_model.specs.ReadFile.{read_file, read_node, bytes_read, par
 use Rattle.namespace_model.specs.GetProperties.{get_properties, properties_of, properties_shown}
 use Rattle.namespace_model.specs.GetAccess.{get_access, access_of, access_shown}
 use Rattle.namespace_model.specs.CheckAccess.{check_access, checked_on}
-use Rattle.namespace_model.specs.Append.{append, append_node, appended, refused_staging, data_of}
-use Rattle.namespace_model.specs.Flush.{flush, flush_node, flushed_to, refused_flush}
+use Rattle.namespace_model.specs.Append.{Appending, append, append_node, append_data, append_put, appended, appended_node, refused_flush_too}
+use Rattle.namespace_model.specs.Contents.{data_of, refused_staging, refused_flush}
+use Rattle.namespace_model.specs.Flush.{flush, flush_node, flushed_to}
 use Rattle.namespace_model.specs.SetProperties.{set_properties, set_properties_of, properties_set}
 use Rattle.namespace_model.specs.SetAccess.{set_access, set_access_of, access_put, pair_set, has_default, sticky_set}
 use Rattle.namespace_model.specs.LeaseNode.{act_on_lease, lease_node, lease_put}
 use Rattle.namespace_model.specs.SetAccessRecursive.{set_access_recursive, batch_below, batch_page, batch_of, Batch, turn_of, with_turn}
 use Rattle.namespace_model.specs.Step.{root_of}
 use Rattle.namespace_model.proofs.Lookups.{path_from_eq}
-use Rattle.namespace_model.proofs.Everywhere.{unless_has, noted_has, walk_or_has, walk_has, found_has}
+use Rattle.namespace_model.proofs.Everywhere.{under_lease_has, unless_has, noted_has, walk_or_has, walk_has, found_has}
 use Rattle.namespace_model.proofs.ShapedEdits.{none_some}
 
 -- what a step puts, by an operation that may be another one than the entry's
@@ -168,11 +171,25 @@ module _ (t : Tree) (root : IsDirectoryAt t []) (e : Entry) where
 
   -- ---- edits
 
-  pub append_stamps : (p : Path) (position : ℕ) → StampsOf t e (op.Append p position) (append t e p position)
-  unfolding append
-  append_stamps p position =
-      at_node (op.Append p position) p (append_node e p position) (λ x h. go (op.Append p position) (lacks (caller_of e) 6 p x) _ (go (op.Append p position) (refuse_if (is_directory x) code.ResourceTypeMismatch) _ (go (op.Append p position) (lease_refuses e e.request.lease x) _
-      (go (op.Append p position) (refused_staging (stage_answer (data_of x.content) position e.request.body)) (appended e p position x) (one_put (op.Append p position) [] (p ∷ []) [] None p _ refl (kept p x _ h refl refl))))))
+  append_right : (flush : Bool) (p : Path) (x y : Node) → at t p ≡ Some x → y.number ≡ x.number → y.moment ≡ x.moment → IsRightPut flush t e p (append_put flush e.moment y)
+  append_right true p x y there number moment = stamped y
+  append_right false p x y there number moment = kept p x y there number moment
+
+  module _ (p : Path) (position : ℕ) (flush retain : Bool) (action : AppendLease) where
+    abbrev appending : Appending
+    appending = record { position = position; flush = flush; retain = retain; action = action }
+
+    abbrev append_op : Op
+    append_op = op.Append p position flush retain action
+
+    pub append_stamps : StampsOf t e (op.Append p position flush retain action) (append t e p (record { position = position; flush = flush; retain = retain; action = action }))
+    unfolding append
+    append_stamps =
+        at_node append_op p (append_node e p appending) (λ x h. go append_op (lacks (caller_of e) 6 p x) _ (go append_op (refuse_if (is_directory x) code.ResourceTypeMismatch) _
+        (under_lease_has (StampsOf t e append_op) (quiet append_op) (read append_op) (lease_act_append x.lease action e.request.lease e.moment) (append_data e p appending x) (λ after.
+        go append_op (refused_staging (stage_answer (data_of x.content) position e.request.body)) _
+        (go append_op (refused_flush_too flush (append_flush_answer (data_of x.content) position e.request.body)) (appended e p appending x after)
+        (one_put append_op [] (p ∷ []) [] None p (append_put flush e.moment (appended_node e appending x after)) refl (append_right flush p x (appended_node e appending x after) h refl refl)))))))
 
   pub flush_stamps : (p : Path) (position : ℕ) (retain : Bool) → StampsOf t e (op.Flush p position retain) (flush t e p position retain)
   unfolding flush

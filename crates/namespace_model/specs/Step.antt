@@ -48,7 +48,8 @@ acts t e (op.Read path range) = read_file t e path range
 acts t e (op.GetProperties path status) = get_properties t e path status
 acts t e (op.GetAccess path) = get_access t e path
 acts t e (op.CheckAccess path want) = check_access t e path want
-acts t e (op.Append path position) = append t e path position
+acts t e (op.Append path position flush retain action) =
+    append t e path (record { position = position; flush = flush; retain = retain; action = action })
 acts t e (op.Flush path position retain) = flush t e path position retain
 acts t e (op.SetProperties path props) = set_properties t e path props
 acts t e (op.SetAccess path owner group permissions acl) =

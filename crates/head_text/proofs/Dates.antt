@@ -1,11 +1,13 @@
 -- The date of a second is the one whose numbers the definition gives.
-use Rattle.std.proofs.Common.{◌≡◌, ℕ, zero, suc, ◌+◌, ◌-◌, ◌*◌, ◌/◌, ◌%◌, ◌<◌, ◌≤◌, Bool, true, false, leb, cond, refl, sym, ap, ◌∙◌, arith, inl, inr}
+use Rattle.std.proofs.Common.{◌≡◌, ℕ, zero, suc, ◌+◌, ◌-◌, ◌*◌, ◌/◌, ◌%◌, ◌<◌, ◌≤◌, Bool, true, false, leb, cond, refl, sym, ap, ◌∙◌, arith, inl, inr, Some, None}
 use Rattle.std.proofs.lemmas.Bool.{leb-true, leb-false}
 use Rattle.std.proofs.Math.Nat.{eq-or-lt_of_le}
 use Rattle.httpdate.specs.declared.date.HttpDate.{HttpDate}
 use Rattle.httpdate.specs.Calendar.{days_of_years, days_of_months, days_in_year, days_in_month, days_from_civil, weekday}
-use Rattle.httpdate.specs.Date.{unix_secs, date_text}
+use Rattle.std.specs.Option.{option_and_then}
+use Rattle.httpdate.specs.Date.{unix_secs, date_text, parse_secs, valid_secs}
 use Rattle.httpdate.specs.Valid.{IsValid, parts_secs}
+use Rattle.httpdate.proofs.FormatLemmas.{parse_complete}
 use Rattle.httpdate.proofs.CalendarLemmas.{days_of_years_closed, days_of_months_all}
 use Rattle.httpdate.proofs.ValidLemmas.{is_valid_complete}
 use Rattle.httpdate.proofs.Theorems.{date_text_is}
@@ -121,3 +123,12 @@ pub date_text-http_date : (date : HttpDate) → unix_secs date < 253402300800 �
 unfolding http_date
 date_text-http_date date early =
     date_text_is date (parts_of (unix_secs date)) (is_valid_complete _ (parts_valid (unix_secs date) early)) (sym (parts_secs_is (unix_secs date) early))
+
+-- the text of a second is read as that second
+pub http_date_is_read : (secs : ℕ) → secs < 253402300800 → parse_secs (http_date secs) ≡ Some secs
+unfolding http_date
+http_date_is_read secs early =
+    let valid = parts_valid secs early in
+    ap (option_and_then valid_secs) (parse_complete (http_date secs) (parts_of secs) valid (inl refl))
+    ∙ ap (λ b. cond b (Some (parts_secs (parts_of secs))) None) (is_valid_complete (parts_of secs) valid)
+    ∙ ap Some (parts_secs_is secs early)

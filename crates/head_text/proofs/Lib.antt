@@ -1,6 +1,10 @@
+pub mod ConditionLemmas
 pub mod Dates
+pub mod HeaderLemmas
+pub mod HexLemmas
 pub mod RangeLemmas
 pub mod TagLemmas
+pub mod TagListLemmas
 pub mod TagTextLemmas
 pub mod TrimLemmas
 pub mod PropertyAnswers

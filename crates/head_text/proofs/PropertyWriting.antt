@@ -1,5 +1,5 @@
 -- What is written of properties is read back.
-use Rattle.std.proofs.Common.{◌≡◌, ℕ, zero, suc, ◌+◌, ◌*◌, ◌/◌, ◌%◌, ◌-◌, ◌<◌, ◌≤◌, Bool, true, false, not, ◌&&◌, ◌==◌, cond, List, [], ◌∷◌, ◌++◌, map, length, get_or, slice_index, take, drop, replicate, reverse, Vec, Result, Ok, Err, OnOk, refl, sym, ap, subst, ◌∙◌, append_assoc, arith}
+use Rattle.std.proofs.Common.{◌≡◌, ℕ, zero, suc, ◌+◌, ◌*◌, ◌/◌, ◌%◌, ◌-◌, ◌<◌, ◌≤◌, Bool, true, false, not, ◌&&◌, ◌==◌, cond, List, [], ◌∷◌, ◌++◌, map, length, get_or, slice_index, take, drop, replicate, reverse, Vec, Ok, refl, sym, ap, subst, ◌∙◌, append_assoc, arith}
 use Rattle.std.specs.declared.alloc.Global.{Global}
 use Rattle.std.specs.List.{list_all, slice_split, onto_first, join_with_byte, AllZip, AllByRecursion, prefix_len}
 use Rattle.std.proofs.lemmas.Bool.{false≢true}
@@ -205,7 +205,3 @@ text_more pairs i pair text parted new name value within is so_far cut end own_n
     ∙ joined_more front (property_of pair)
     ∙ ap (λ ps. join_with_byte 44 (map property_text ps)) (sym (map-append property_of (take i pairs) (pair ∷ [])))
     ∙ ap (λ ps. join_with_byte 44 (map property_text (map property_of ps))) (sym (take_more pairs i pair within ∙ ap (λ q. take i pairs ++ q ∷ []) (sym is)))
-
-pub whatever : {X E P : Type 0} (r : Result X E) → P → OnOk r P
-whatever (Ok x) p = p
-whatever (Err e) p = tt

@@ -1,15 +1,11 @@
 -- Conditions of a request on a node (RFC 9110, section 13), by the node's number, which its entity tag shows, and its moment.
-use Rattle.std.specs.Prelude.{ℕ, ◌/◌, Bool, true, false, not, ◌||◌, ◌==◌, nat_le, List, Option, Some, None}
-use Rattle.std.specs.List.{list_any}
+use Rattle.std.specs.Prelude.{ℕ, ◌/◌, Bool, true, false, not, nat_le, Option, Some, None}
+use Rattle.head_text.specs.declared.conditions.Conditions.{Conditions}
+use Rattle.head_text.specs.Tags.{Tags, is_listed}
 
--- what a contract sees of a list of entity tags
-pub record Tags : Type 0 where
-  pub any : Bool
-  pub numbers : List ℕ
-
--- any tag will do, or the number is listed
-abbrev pub is_listed : Tags → ℕ → Bool
-is_listed tags number = tags.any || list_any (λ n. n == number) tags.numbers
+-- none of the four is given
+abbrev pub no_conditions : Conditions
+no_conditions = record { matches = None; none = None; modified = None; unmodified = None }
 
 -- If-Match: the node is there and listed
 abbrev pub match_holds : Option Tags → Option (ℕ × ℕ) → Bool

@@ -3,7 +3,7 @@ use Rattle.std.specs.Prelude.{codes, ℕ, Bool, ◌-◌, ◌==◌, ◌&&◌, ◌
 use Rattle.std.specs.Char.{is_ascii_hexdigit}
 use Rattle.std.specs.List.{list_all, slice_split, filter_map, prefix_len, suffix_len}
 use Rattle.std.specs.Str.Parse.{digits_value}
-use Rattle.head_text.specs.Conditions.{Tags}
+use Rattle.head_text.specs.Tags.{Tags}
 
 -- a space or a tab
 abbrev pub is_blank : ℕ → Bool

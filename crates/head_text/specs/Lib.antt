@@ -2,11 +2,14 @@ pub mod Headers
 pub mod Decimal
 pub mod Hex
 pub mod DateText
+pub mod Tags
 pub mod Conditions
 pub mod ConditionsOf
+pub mod ConditionWords
 pub mod Ranges
 pub mod ETags
 pub mod TagTexts
+pub mod TagLists
 pub mod Trims
 pub mod Properties
 pub mod PropertyPlaces

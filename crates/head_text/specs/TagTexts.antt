@@ -4,6 +4,11 @@ use Rattle.std.specs.Char.{is_ascii_hexdigit}
 use Rattle.std.specs.List.{list_all}
 use Rattle.std.specs.Str.Parse.{digits_value}
 use Rattle.head_text.specs.ETags.{trimmed}
+use Rattle.head_text.specs.Hex.{hex16}
+
+-- the entity tag of a number as replies have it: `"0x`, sixteen hex digits, `"`
+unfoldable pub etag_text : ℕ → List ℕ
+etag_text number = codes "\"0x" ++ hex16 number ++ codes "\""
 
 -- with spaces and tabs round it: perhaps `W/`, and then `0x` and sixteen hex digits of the number, in quotes or not
 pub record SpellsTag (item : List ℕ) (number : ℕ) : Type 0 where

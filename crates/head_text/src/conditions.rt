@@ -5,7 +5,7 @@ use std::alloc::{AllocError, Global};
 use thiserror::Error;
 
 /// What a request asks of a node before it does its work (RFC 9110, section 13). Dates are whole seconds since 1970.
-#[derive(Drop)]
+#[derive(Debug, Drop)]
 pub struct Conditions {
     /// If-Match.
     pub matches: Option<ETagList>,
@@ -44,15 +44,15 @@ fn copy_tags(alloc: Global, tags: &Option<ETagList>) -> Result<Option<ETagList>,
 #[derive(Clone, Copy, Debug, PartialEq, Eq, Error)]
 pub enum Unmet {
     /// The node is not there, or its tag is not listed.
-    #[error("If-Match fails")]
+    #[error("If-Match fails.")]
     Match,
     /// The node changed after the date.
-    #[error("If-Unmodified-Since fails")]
+    #[error("If-Unmodified-Since fails.")]
     Unmodified,
     /// The node is there, and its tag is listed.
-    #[error("If-None-Match fails")]
+    #[error("If-None-Match fails.")]
     NoneMatch,
     /// The node did not change after the date.
-    #[error("If-Modified-Since fails")]
+    #[error("If-Modified-Since fails.")]
     Modified,
 }

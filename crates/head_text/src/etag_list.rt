@@ -3,14 +3,14 @@ use std::marker::Model;
 
 /// The entity tags of a condition (RFC 9110, sections 13.1.1 and 13.1.2): whether any tag will do, and the numbers of the tags that are
 /// listed. A contract sees the flag `any` and the list `numbers`.
-#[derive(Drop)]
+#[derive(Debug, Drop)]
 pub struct ETagList {
     any: bool,
     numbers: Vec<u64>,
 }
 
 impl Model for ETagList {
-    ghost use Rattle.head_text.specs.Conditions.{Tags};
+    ghost use Rattle.head_text.specs.Tags.{Tags};
 
     ghost Value = { Tags };
 
@@ -19,7 +19,7 @@ impl Model for ETagList {
 
 impl ETagList {
     ghost use Rattle.std.specs.Prelude.{◌≡◌, IfOk};
-    ghost use Rattle.head_text.specs.Conditions.{is_listed};
+    ghost use Rattle.head_text.specs.Tags.{is_listed};
 
     /// Keeps the flag and the numbers that it is given.
     pub fn new(any: bool, numbers: Vec<u64>) -> ETagList
@@ -44,7 +44,7 @@ impl ETagList {
     }
 
     /// Whether any tag will do or this number is listed.
-    pub fn lists(&self, number: u64) -> bool
+    pub fn matches(&self, number: u64) -> bool
         ensures { result ≡ is_listed self.now number }
     {
         self.any || self.numbers.as_slice().contains(&number)

@@ -1,11 +1,13 @@
 ghost use Rattle.std.specs.Prelude.{◌≡◌, map, IfOk};
-ghost use Rattle.head_text.specs.Headers.{header_of};
+ghost use Rattle.std.specs.Option.{option_copied};
+ghost use Rattle.head_text.specs.Headers.{first_header, header_of};
 
+use super::header_name::is_same_name;
 use std::alloc::{AllocError, Global};
 use std::marker::Model;
 
 /// The headers of a request in their order. A contract sees a list of pairs, the name and the value, both as bytes.
-#[derive(Drop)]
+#[derive(Debug, Drop)]
 pub struct HeaderList {
     pairs: Vec<(Vec<u8>, Vec<u8>)>,
 }
@@ -34,6 +36,13 @@ impl HeaderList {
         self.pairs.as_slice()
     }
 
+    /// The value of the first header of this name, whatever the case of its letters (RFC 9110, section 5.1).
+    pub fn first<'a>(&'a self, name: &[u8]) -> Option<&'a [u8]>
+        ensures { option_copied result ≡ first_header name.now self.now }
+    {
+        first_header(self.pairs.as_slice(), name)
+    }
+
     /// Another list with the same pairs. The one error is want of memory.
     pub fn copy(&self, alloc: Global) -> Result<HeaderList, AllocError>
         ensures { IfOk result (λ list. list ≡ self.now) }
@@ -42,6 +51,18 @@ impl HeaderList {
             pairs: copy_pairs(alloc, self.pairs.as_slice())?,
         })
     }
+}
+
+#[tactic(auto, unfolding(crate::specs::Headers::first_header))]
+fn first_header<'a>(headers: &'a [(Vec<u8>, Vec<u8>)], name: &[u8]) -> Option<&'a [u8]>
+    ensures { option_copied result ≡ first_header name.now (map header_of headers.now) }
+{
+    for header in headers {
+        if is_same_name(header.0.as_slice(), name) {
+            return Some(header.1.as_slice());
+        }
+    }
+    None
 }
 
 pub(crate) fn copy_pairs(

@@ -32,7 +32,7 @@ fn match_holds(tags: &Option<ETagList>, node: Option<(u64, u64)>) -> bool
     match (tags, node) {
         (None, _) => true,
         (Some(_), None) => false,
-        (Some(tags), Some((number, _))) => tags.lists(number),
+        (Some(tags), Some((number, _))) => tags.matches(number),
     }
 }
 
@@ -49,7 +49,7 @@ fn none_match_holds(tags: &Option<ETagList>, node: Option<(u64, u64)>) -> bool
     ensures { result ≡ none_match_holds tags.now node }
 {
     match (tags, node) {
-        (Some(tags), Some((number, _))) => !tags.lists(number),
+        (Some(tags), Some((number, _))) => !tags.matches(number),
         _ => true,
     }
 }

@@ -1,13 +1,19 @@
-//! Texts of headers: lists of headers, decimal numbers, dates, ranges, entity tags, conditions, properties, and the hex digits of numbers
-//! in replies.
+//! Texts of headers: lists of headers, decimal numbers, dates, ranges, entity tags, conditions, properties, and the hex
+//! digits of numbers in replies.
 //!
-//! Definitions: specs/Headers.antt (headers as pairs of bytes), specs/Decimal.antt (which texts are numbers, and which), specs/Hex.antt (sixteen hex digits),
-//! specs/DateText.antt (the text of a date as a function of its second), specs/Ranges.antt (which texts are ranges of bytes), specs/ETags.antt (lists of entity
-//! tags), specs/TagTexts.antt (the text of one entity tag), specs/Trims.antt (what it is to trim a text), specs/Conditions.antt (when each condition holds), specs/ConditionsOf.antt (the first that fails),
-//! specs/Properties.antt (what holds of properties), specs/PropertyTexts.antt (which texts are of which properties, when each fault comes, and what is written),
-//! specs/PropertyStops.antt (how an answer yields to want of memory). The laws of `laws` say in plain words what the readers and writers keep.
+//! A caller may rely on each reader accepting exactly the texts of its grammar with their values, on each fault coming
+//! exactly where it is said, on what a writer prints being read back as what was written, and on `conditions_hold`
+//! telling the first condition that fails. Where a call takes memory, want of it is an error of its own.
+//!
+//! The definitions stand in `specs/`: `Headers` (headers as pairs of bytes), `Decimal`, `Hex`, `DateText` (the text of
+//! a date as a function of its second), `Ranges`, `Tags` and `ETags` (lists of entity tags and their texts), `TagTexts`
+//! (the text of one entity tag), `Trims` (what it is to trim a text), `Conditions` (when each condition holds) and
+//! `ConditionsOf` (the first that fails), `Properties` and `PropertyTexts` (which texts are of which properties, when
+//! each fault comes, and what is written), and `PropertyStops` (how an answer yields to want of memory). The laws of
+//! `laws` say in plain words what the readers and writers keep, by the words of `ConditionWords` and `TagLists` too.
 #![tactic(auto)]
 
+mod blanks;
 mod conditions;
 mod date;
 mod decimal;
@@ -24,6 +30,7 @@ mod props_writer;
 mod range;
 mod read_tags;
 
+pub use blanks::trimmed;
 pub use conditions::{Conditions, Unmet};
 pub use date::{date_text, read_date};
 pub use decimal::read_dec;
@@ -38,6 +45,3 @@ pub use props_reader::read_props;
 pub use props_writer::write_props;
 pub use range::{Range, read_range};
 pub use read_tags::read_etags;
-
-#[cfg(test)]
-mod tests;

@@ -9,7 +9,7 @@ use std::marker::Model;
 /// bytes, ascending by name.
 ///
 /// Each name has one or more ASCII letters, digits, `_` or `-`, and stands once; there are at most 64 pairs.
-#[derive(Drop)]
+#[derive(Debug, Drop)]
 pub struct Props {
     pairs: Vec<(Vec<u8>, Vec<u8>)>,
 }

@@ -7,9 +7,9 @@ ghost use Rattle.head_text.specs.PropertyTexts.{IsPropertiesText, IsTextFault, i
 ghost use Rattle.head_text.specs.declared.props_fault.PropsFault.{PropsFault};
 ghost use Rattle.head_text.specs.declared.props_fault.PropsStop.{PropsStop};
 
+use super::blanks::trimmed;
 use super::props::Props;
 use super::props_fault::{PropsFault, PropsStop};
-use super::read_tags::trimmed;
 use base64::DecodeAllocError;
 use base64::engine::general_purpose::STANDARD;
 use std::alloc::{AllocError, Global};
@@ -19,8 +19,8 @@ use std::cmp::Ordering;
 /// and split at its first `=`. A name has one or more ASCII letters, digits, `_` or `-`; a value is in base64 with the standard
 /// alphabet and padding (RFC 4648, section 4). The empty text has no pairs.
 ///
-/// The faults: `TooMany` for over 64 items; else that of the first item that has one, which is `BadPair` for an item that is no pair
-/// of a name and a value, `BadBase64` for a value that isn't base64, and `Twice` for a name that stood before.
+/// The error is `NoMemory` for want of memory, which can come at each text, or a fault: `TooMany` for over 64 items; else that of the first item that has one, which is `BadPair` for an item that is no pair
+/// of a name and a value, `BadBase64` for a value that isn't base64, and `Twice` for a name that stood before. Places are counted from 0.
 pub fn read_props(alloc: Global, text: &[u8]) -> Result<Props, PropsStop>
     ensures found { IfOk result (IsPropertiesText text.now) }
     ensures only { (pairs : List Property) → IsPropertiesText text.now pairs → Answers result (Ok pairs) }

@@ -10,7 +10,7 @@ use std::alloc::{AllocError, Global};
 /// value in base64 (RFC 4648, section 4). The one error is want of memory, and leaves the text as it was.
 pub fn write_props(props: &Props, out: &mut Vec<u8>) -> Result<(), AllocError>
     ensures text { out.new.items ≡ (if is_ok result then out.old.items ++ properties_text props.now else out.old.items) }
-    ensures read_back { OnOk result (properties_of (properties_text props.now) ≡ Ok props.now) }
+    ensures read_back { properties_of (properties_text props.now) ≡ Ok props.now }
 {
     let text = properties_text(*out.allocator(), props.pairs())?;
     out.extend_from_slice(text.as_slice())

@@ -16,6 +16,7 @@ pub struct Range {
 /// Reads `bytes=a-` or `bytes=a-b`, where `a` and `b` are numbers as `read_dec` reads them, and `a` is at most `b`. The answer is
 /// `None` exactly for another text.
 pub fn read_range(text: &[u8]) -> Option<Range>
+    ensures value { result ≡ range_of text.now }
     ensures found { IfSome result (SpellsRange text.now) }
     ensures only { (range : Range) → SpellsRange text.now range → result ≡ Some range }
 {

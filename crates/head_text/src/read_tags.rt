@@ -2,8 +2,9 @@ ghost use Rattle.std.specs.Prelude.{◌≡◌, ◌≤◌, IfOk, true, length};
 ghost use Rattle.std.specs.Char.{digit_value, is_ascii_hexdigit};
 ghost use Rattle.std.specs.List.{list_all, filter_map, slice_split};
 ghost use Rattle.std.specs.Str.Parse.{digits_value};
-ghost use Rattle.head_text.specs.ETags.{etags_of, is_blank, is_comma, is_quoted, item_number, tag_number, trimmed, without_back, without_front, without_quotes, without_weak};
+ghost use Rattle.head_text.specs.ETags.{etags_of, is_comma, is_quoted, item_number, tag_number, without_quotes, without_weak};
 
+use super::blanks::trimmed;
 use super::etag_list::ETagList;
 use std::alloc::{AllocError, Global};
 
@@ -43,39 +44,6 @@ fn item_number(item: &[u8]) -> Option<u64>
     ensures { result ≡ item_number item.now }
 {
     tag_number(without_quotes(without_weak(trimmed(item))))
-}
-
-fn is_blank(byte: u8) -> bool
-    ensures { result ≡ is_blank byte }
-{
-    byte == b' ' || byte == b'\t'
-}
-
-#[tactic(auto, unfolding(crate::specs::ETags::trimmed))]
-pub(crate) fn trimmed(text: &[u8]) -> &[u8]
-    ensures { result.now ≡ trimmed text.now }
-{
-    without_back(without_front(text))
-}
-
-fn without_front(text: &[u8]) -> &[u8]
-    ensures { result.now ≡ without_front text.now }
-{
-    let mut at = 0;
-    while at < text.len() && is_blank(text[at]) {
-        at += 1;
-    }
-    &text[at..]
-}
-
-fn without_back(text: &[u8]) -> &[u8]
-    ensures { result.now ≡ without_back text.now }
-{
-    let mut end = text.len();
-    while 0 < end && is_blank(text[end - 1]) {
-        end -= 1;
-    }
-    &text[..end]
 }
 
 #[tactic(auto, unfolding(crate::specs::ETags::without_weak))]

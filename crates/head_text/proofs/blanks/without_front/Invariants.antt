@@ -1,7 +1,7 @@
 use Rattle.std.proofs.Common.{◌≡◌, ◌+◌, ◌-◌, ◌≤◌, length, drop}
 use Rattle.std.specs.List.{prefix_len}
 use Rattle.head_text.specs.ETags.{is_blank}
-use Rattle.head_text.proofs.read_tags.without_front.Given as goal
+use Rattle.head_text.proofs.blanks.without_front.Given as goal
 
 abbrev pub decreases-loop-at : goal.decreases-loop-at
 decreases-loop-at l = length l.text - l.at

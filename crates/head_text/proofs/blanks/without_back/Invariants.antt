@@ -1,7 +1,7 @@
 use Rattle.std.proofs.Common.{◌≡◌, ◌+◌, ◌≤◌, length, take}
 use Rattle.std.specs.List.{suffix_len}
 use Rattle.head_text.specs.ETags.{is_blank}
-use Rattle.head_text.proofs.read_tags.without_back.Given as goal
+use Rattle.head_text.proofs.blanks.without_back.Given as goal
 
 abbrev pub decreases-loop-end : goal.decreases-loop-end
 decreases-loop-end l = l.end

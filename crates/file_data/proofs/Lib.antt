@@ -2,3 +2,5 @@ pub mod StagingLemmas
 pub mod FileLemmas
 pub mod TroubleLemmas
 pub mod OrderLemmas
+pub mod AppendLemmas
+pub mod ExtentLemmas

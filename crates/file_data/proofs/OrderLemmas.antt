@@ -1,7 +1,7 @@
 -- Pieces staged in another order, what a flush leaves to be read, and when a stage is refused.
 use Prim.Native.Nat.{zero, suc}
-use Rattle.std.proofs.Common.{map, Ok, Err}
-use Rattle.std.proofs.lemmas.List.{take_all}
+use Rattle.std.proofs.Common.{map, replicate, subst, Ok, Err}
+use Rattle.std.proofs.lemmas.List.{take_all, length-replicate}
 use Rattle.std.proofs.Math.Seq.{drop-append_seam, take-append_seam}
 use Rattle.std.proofs.Math.Nat.{sub-zero}
 use Rattle.std.proofs.lemmas.List.Elements.{recursion_from_All}
@@ -49,14 +49,19 @@ swapped s t (p ∷ ps) =
 both : Pieces → ℕ → List ℕ → ℕ → List ℕ → Pieces
 both ps q bs r cs = pieces_below ps q ++ (q, bs) ∷ (pieces_below (pieces_above ps q) r ++ (r, cs) ∷ pieces_above ps r)
 
-low_first : (ps : Pieces) (q r : ℕ) (bs cs : List ℕ) → q < r → with_piece (with_piece ps q bs) r cs ≡ both ps q bs r cs
-unfolding both
-low_first ps q r bs cs l =
-    let front : pieces_below (with_piece ps q bs) r ≡ pieces_below ps q ++ (q, bs) ∷ pieces_below (pieces_above ps q) r =
+-- below the end of a piece that was put at q there are those below q, the piece, and those above q that start below
+pub below_with_piece : (ps : Pieces) (q r : ℕ) (bs : List ℕ) → q < r
+    → pieces_below (with_piece ps q bs) r ≡ pieces_below ps q ++ (q, bs) ∷ pieces_below (pieces_above ps q) r
+below_with_piece ps q r bs l =
     filter-append (λ p. nat_lt p.0 r) (pieces_below ps q) ((q, bs) ∷ pieces_above ps q)
     ∙ ap (λ (x : Pieces). x ++ pieces_below ((q, bs) ∷ pieces_above ps q) r)
     (kept_all (λ p. nat_lt p.0 r) (pieces_below ps q) (weaker (λ p. p.0 < q) (λ p. nat_lt p.0 r ≡ true) (λ p k. lt_true p.0 r (omega arith)) (pieces_below ps q) (below_passes ps q)))
-    ∙ ap (λ (b : Bool). pieces_below ps q ++ cond b ((q, bs) ∷ pieces_below (pieces_above ps q) r) (pieces_below (pieces_above ps q) r)) (lt_true q r l) in
+    ∙ ap (λ (b : Bool). pieces_below ps q ++ cond b ((q, bs) ∷ pieces_below (pieces_above ps q) r) (pieces_below (pieces_above ps q) r)) (lt_true q r l)
+
+low_first : (ps : Pieces) (q r : ℕ) (bs cs : List ℕ) → q < r → with_piece (with_piece ps q bs) r cs ≡ both ps q bs r cs
+unfolding both
+low_first ps q r bs cs l =
+    let front = below_with_piece ps q r bs l in
     let back : pieces_above (with_piece ps q bs) r ≡ pieces_above ps r =
     filter-append (λ p. nat_lt r p.0) (pieces_below ps q) ((q, bs) ∷ pieces_above ps q)
     ∙ ap (λ (x : Pieces). x ++ pieces_above ((q, bs) ∷ pieces_above ps q) r)
@@ -94,6 +99,31 @@ either_order ps q r bs cs ne =
       | inr l ↦ let k : r < q = omega arith in high_first ps r q cs bs k ∙ sym (low_first ps r q cs bs k)
     ]
 
+-- a second piece at a position takes the place of the first
+pub put_again : (ps : Pieces) (q : ℕ) (bs cs : List ℕ) → with_piece (with_piece ps q bs) q cs ≡ with_piece ps q cs
+put_again ps q bs cs =
+    let front : pieces_below (with_piece ps q bs) q ≡ pieces_below ps q =
+    filter-append (λ p. nat_lt p.0 q) (pieces_below ps q) ((q, bs) ∷ pieces_above ps q)
+    ∙ ap (λ (x : Pieces). x ++ pieces_below ((q, bs) ∷ pieces_above ps q) q) (absorbed (λ p. nat_lt p.0 q) (λ p. nat_lt p.0 q) (λ p k. k) ps)
+    ∙ ap (λ (b : Bool). pieces_below ps q ++ cond b ((q, bs) ∷ pieces_below (pieces_above ps q) q) (pieces_below (pieces_above ps q) q)) (lt_false q q (omega arith))
+    ∙ ap (λ (x : Pieces). pieces_below ps q ++ x)
+    (kept_none (λ p. nat_lt p.0 q) (pieces_above ps q) (weaker (λ p. q < p.0) (λ p. nat_lt p.0 q ≡ false) (λ p k. lt_false p.0 q (omega arith)) (pieces_above ps q) (above_passes ps q)))
+    ∙ append-nil (pieces_below ps q) in
+    let back : pieces_above (with_piece ps q bs) q ≡ pieces_above ps q =
+    filter-append (λ p. nat_lt q p.0) (pieces_below ps q) ((q, bs) ∷ pieces_above ps q)
+    ∙ ap (λ (x : Pieces). x ++ pieces_above ((q, bs) ∷ pieces_above ps q) q)
+    (kept_none (λ p. nat_lt q p.0) (pieces_below ps q) (weaker (λ p. p.0 < q) (λ p. nat_lt q p.0 ≡ false) (λ p k. lt_false q p.0 (omega arith)) (pieces_below ps q) (below_passes ps q)))
+    ∙ ap (λ (b : Bool). cond b ((q, bs) ∷ pieces_above (pieces_above ps q) q) (pieces_above (pieces_above ps q) q)) (lt_false q q (omega arith))
+    ∙ absorbed (λ p. nat_lt q p.0) (λ p. nat_lt q p.0) (λ p k. k) ps in
+    ap (λ (x : Pieces). x ++ (q, cs) ∷ pieces_above (with_piece ps q bs) q) front
+    ∙ ap (λ (x : Pieces). pieces_below ps q ++ (q, cs) ∷ x) back
+
+pub staged_again : (f : FileRecord) (q : ℕ) (bs cs : List ℕ) → staged_with (staged_with f q bs) q cs ≡ staged_with f q cs
+staged_again f q bs cs = ap (λ (s : Pieces). kept f s) (put_again f.staged q bs cs)
+  where
+    kept : FileRecord → Pieces → FileRecord
+    kept g s = record { committed = g.committed; extents = g.extents; staged = s; stage_room = g.stage_room; flush_room = g.flush_room }
+
 exchange_keeps : (P : (ℕ × List ℕ) → Type 0) (k : ℕ) (ps : Pieces) → AllByRecursion P ps → AllByRecursion P (exchanged k ps)
 exchange_keeps P k [] h = h
 exchange_keeps P k (p ∷ []) h = h
@@ -110,7 +140,7 @@ pub two_staged : (f : FileRecord) (q r : ℕ) (bs cs : List ℕ) → q ≢ r →
 two_staged f q r bs cs ne = ap (λ (s : Pieces). staged_again f s) (either_order f.staged q r bs cs ne)
   where
     staged_again : FileRecord → Pieces → FileRecord
-    staged_again g s = record { committed = g.committed; staged = s; stage_room = g.stage_room; flush_room = g.flush_room }
+    staged_again g s = record { committed = g.committed; extents = g.extents; staged = s; stage_room = g.stage_room; flush_room = g.flush_room }
 
 exchange_staged : (k : ℕ) (ps : Pieces) (f : FileRecord) → StartApart ps → staged_all (exchanged k ps) f ≡ staged_all ps f
 exchange_staged k [] f h = refl
@@ -145,13 +175,19 @@ flush_here f e =
     ((omega arith), ap (λ (ps : Pieces). map start_of ps ++ length f.committed ∷ []) e ∙ sym (ap (λ (ps : Pieces). length f.committed ∷ map end_of ps) e))
 
 pub flushed_here : (f : FileRecord) → pieces_below f.staged (length f.committed) ≡ [] → SameButRoom f (flushed f (length f.committed) true)
-flushed_here f e =
-    (ap (λ (ps : Pieces). f.committed ++ bytes_of ps) e ∙ append-nil f.committed, all_from f.staged (length f.committed) e)
+flushed_here f e = (
+  ap (λ (ps : Pieces). f.committed ++ bytes_of ps) e ∙ append-nil f.committed,
+  ap (λ (ps : Pieces). f.extents ++ ps) e ∙ append-nil f.extents,
+  all_from f.staged (length f.committed) e,
+)
 
 pub flushed_here_dropping : (f : FileRecord) → pieces_below f.staged (length f.committed) ≡ [] → (flushed f (length f.committed) false).committed ≡ f.committed
 flushed_here_dropping f e = ap (λ (ps : Pieces). f.committed ++ bytes_of ps) e ∙ append-nil f.committed
 
-part_behind : (old new : List ℕ) (q : ℕ) → length old + length new ≡ q → slice_range (old ++ new) (length old) q ≡ new
+pub flushed_here_extents : (f : FileRecord) → pieces_below f.staged (length f.committed) ≡ [] → (flushed f (length f.committed) false).extents ≡ f.extents
+flushed_here_extents f e = ap (λ (ps : Pieces). f.extents ++ ps) e ∙ append-nil f.extents
+
+pub part_behind : (old new : List ℕ) (q : ℕ) → length old + length new ≡ q → slice_range (old ++ new) (length old) q ≡ new
 part_behind old new q e =
     ap (λ (r : List ℕ). take (q - length old) r) (drop-append_seam old new) ∙ take_all (q - length old) new (omega arith)
 
@@ -205,3 +241,15 @@ stage_passes f q bs = (one, λ h. rw (lt_false q (length f.committed) h.0, lt_fa
         | inr k ↦ (l, k)
       ]
     ]
+
+-- what an answer that allows a stage says, of a file under another name
+pub staged_as : (f g : FileRecord) → f ≡ g → (q : ℕ) (bs : List ℕ) → Ok tt ≡ stage_answer g q bs
+    → (length f.committed ≤ q) × (q + length bs ≤ file_max)
+staged_as f g same q bs e =
+    subst (λ (h : FileRecord). (length h.committed ≤ q) × (q + length bs ≤ file_max)) (sym same) ((stage_passes g q bs).0 (sym e))
+
+-- a piece of so many bytes that may be staged ends within the limit
+pub ends_at_limit : (f : FileRecord) (q len : ℕ) → ((bytes : List ℕ) → length bytes ≡ len → Ok tt ≡ stage_answer f q bytes) → q + len ≤ file_max
+ends_at_limit f q len h =
+    let long : length (replicate len 0) ≡ len = length-replicate len 0 in
+    subst (λ (n : ℕ). q + n ≤ file_max) long ((stage_passes f q (replicate len 0)).0 (sym (h (replicate len 0) long))).1

@@ -65,7 +65,7 @@ first_and_behind : (p : ℕ × List ℕ) (ps : Pieces) (q : ℕ) → Ascends (p 
 first_and_behind p ps q h l = (l, weaker (λ r. p.0 < r.0) (λ r. q ≤ r.0) (λ r k. omega arith) ps h.0)
 
 -- what begins at or above a position is all there is at or above it
-begins_from : (p : ℕ × List ℕ) (ps : Pieces) (q : ℕ) → Ascends (p ∷ ps) → q ≤ p.0 → ([] ≡ pieces_below (p ∷ ps) q) × (p ∷ ps ≡ pieces_from (p ∷ ps) q)
+pub begins_from : (p : ℕ × List ℕ) (ps : Pieces) (q : ℕ) → Ascends (p ∷ ps) → q ≤ p.0 → ([] ≡ pieces_below (p ∷ ps) q) × (p ∷ ps ≡ pieces_from (p ∷ ps) q)
 begins_from p ps q h l =
     let all = first_and_behind p ps q h l in (
       sym (kept_none (λ r. nat_lt r.0 q) (p ∷ ps) (weaker (λ r. q ≤ r.0) (λ r. nat_lt r.0 q ≡ false) (λ r k. lt_false r.0 q k) (p ∷ ps) all)),
@@ -78,16 +78,56 @@ one_more : (p : ℕ × List ℕ) (ps : Pieces) (q : ℕ) (front back : Pieces) �
 one_more p ps q front back l h =
     (rw (lt_true p.0 q l) (ap (λ r. p ∷ r) h.0), rw (le_false q p.0 l) h.1)
 
-pub parts_at : (xs : Pieces) (k q : ℕ) (d : ℕ × List ℕ) → Ascends xs → k < length xs
-    → AllByRecursion (λ p. p.0 < q) (take k xs) → q ≤ (get_or xs k d).0
-    → (take k xs ≡ pieces_below xs q) × (drop k xs ≡ pieces_from xs q)
-parts_at [] k q d h l a b = absurd (omega arith)
-parts_at (p ∷ ps) zero q d h l a b = begins_from p ps q h b
-parts_at (p ∷ ps) (suc k) q d h l a b = one_more p ps q (take k ps) (drop k ps) a.0 (parts_at ps k q d h.1 (omega arith) a.1 b)
+one_from : (p : ℕ × List ℕ) (ps : Pieces) (q : ℕ) (front back : Pieces) → q ≤ p.0
+    → (front ≡ pieces_below ps q) × (back ≡ pieces_from ps q)
+    → (front ≡ pieces_below (p ∷ ps) q) × (p ∷ back ≡ pieces_from (p ∷ ps) q)
+one_from p ps q front back l h =
+    (rw (lt_false p.0 q l) h.0, rw (le_true q p.0 l) (ap (λ r. p ∷ r) h.1))
 
-pub parts_at_end : (xs : Pieces) (q : ℕ) → AllByRecursion (λ p. p.0 < q) xs → (xs ≡ pieces_below xs q) × ([] ≡ pieces_from xs q)
-parts_at_end [] q a = (refl, refl)
-parts_at_end (p ∷ ps) q a = one_more p ps q ps [] a.0 (parts_at_end ps q a.1)
+-- where the first so many pieces pass the test of a position and no other does, they are those below it
+pub parts_by : (xs : Pieces) (r q : ℕ) → r ≤ length xs
+    → ((k : ℕ) (e : ℕ × List ℕ) → 0 ≤ k → k < r → nat_lt (get_or xs k e).0 q ≡ true)
+    → ((k : ℕ) (e : ℕ × List ℕ) → r ≤ k → k < length xs → nat_lt (get_or xs k e).0 q ≡ false)
+    → (take r xs ≡ pieces_below xs q) × (drop r xs ≡ pieces_from xs q)
+parts_by [] zero q l f g = (refl, refl)
+parts_by [] (suc r) q l f g = absurd (omega arith)
+parts_by (p ∷ ps) zero q l f g =
+    one_from p ps q [] ps (false_lt p.0 q (g 0 p (omega arith) (omega arith)))
+    (parts_by ps 0 q (omega arith) (λ k e a b. absurd (omega arith)) (λ k e a b. g (suc k) e (omega arith) (omega arith)))
+parts_by (p ∷ ps) (suc r) q l f g =
+    one_more p ps q (take r ps) (drop r ps) (true_lt p.0 q (f 0 p (omega arith) (omega arith)))
+    (parts_by ps r q (omega arith) (λ k e a b. f (suc k) e (omega arith) (omega arith)) (λ k e a b. g (suc k) e (omega arith) (omega arith)))
+
+at_place : (P : (ℕ × List ℕ) → Type 0) (xs : Pieces) (k : ℕ) (d : ℕ × List ℕ) → k < length xs → AllByRecursion P xs → P (get_or xs k d)
+at_place P [] k d l h = absurd (omega arith)
+at_place P (p ∷ ps) zero d l h = h.0
+at_place P (p ∷ ps) (suc k) d l h = at_place P ps k d (omega arith) h.1
+
+starts_rise : (xs : Pieces) (i j : ℕ) (d : ℕ × List ℕ) → Ascends xs → i ≤ j → j < length xs → (get_or xs i d).0 ≤ (get_or xs j d).0
+starts_rise [] i j d h l m = absurd (omega arith)
+starts_rise (p ∷ ps) zero zero d h l m = omega arith
+starts_rise (p ∷ ps) zero (suc j) d h l m = let k : p.0 < (get_or ps j d).0 = at_place (λ r. p.0 < r.0) ps j d (omega arith) h.0 in omega arith
+starts_rise (p ∷ ps) (suc i) zero d h l m = absurd (omega arith)
+starts_rise (p ∷ ps) (suc i) (suc j) d h l m = starts_rise ps i j d h.1 (omega arith) (omega arith)
+
+-- no piece below a position comes behind one that isn't
+pub starts_parted : (xs : Pieces) (q i j : ℕ) (d : ℕ × List ℕ) → Ascends xs → i ≤ j → j < length xs
+    → nat_lt (get_or xs j d).0 q ≡ true → nat_lt (get_or xs i d).0 q ≡ true
+starts_parted xs q i j d h l m e =
+    let low : (get_or xs i d).0 ≤ (get_or xs j d).0 = starts_rise xs i j d h l m in
+    let high : (get_or xs j d).0 < q = true_lt (get_or xs j d).0 q e in
+    lt_true (get_or xs i d).0 q (omega arith)
+
+pub Ascends-drop : (k : ℕ) (ps : Pieces) → Ascends ps → Ascends (drop k ps)
+Ascends-drop zero [] h = tt
+Ascends-drop (suc k) [] h = tt
+Ascends-drop zero (p ∷ ps) h = h
+Ascends-drop (suc k) (p ∷ ps) h = Ascends-drop k ps h.1
+
+pub first_of : (xs : Pieces) (k : ℕ) (d : ℕ × List ℕ) → k < length xs → drop k xs ≡ get_or xs k d ∷ drop (suc k) xs
+first_of [] k d l = absurd (omega arith)
+first_of (p ∷ ps) zero d l = refl
+first_of (p ∷ ps) (suc k) d l = first_of ps k d (omega arith)
 
 -- the pieces above are among those at or above
 above_below : (p : ℕ × List ℕ) (ps : Pieces) (q : ℕ) → p.0 < q → pieces_above ps q ≡ pieces_above (pieces_from ps q) q → pieces_above (p ∷ ps) q ≡ pieces_above (pieces_from (p ∷ ps) q) q
@@ -251,10 +291,3 @@ ends_within m (p ∷ ps) n q l a e =
     let h : (n ≡ p.0) × (first_trouble ps (n + length p.1) q ≡ None) = on_the_way p ps n q e in
     let first : p.0 + length p.1 ≤ m = a.0 in
     ends_within m ps (n + length p.1) q (omega arith) a.1 h.1
-
--- at the length all pieces are below
-pub parts_at_limit : (xs : Pieces) (k q : ℕ) → length xs ≤ k → AllByRecursion (λ p. p.0 < q) (take k xs)
-    → (take (length xs) xs ≡ pieces_below xs q) × (drop (length xs) xs ≡ pieces_from xs q)
-parts_at_limit [] k q l a = (refl, refl)
-parts_at_limit (p ∷ ps) zero q l a = absurd (omega arith)
-parts_at_limit (p ∷ ps) (suc k) q l a = one_more p ps q (take (length ps) ps) (drop (length ps) ps) a.0 (parts_at_limit ps k q (omega arith) a.1)

@@ -16,38 +16,38 @@ either_side a b =
 same_or_less : (a b : ℕ) → a ≤ b → (a < b) ⊎ (a ≡ b)
 same_or_less a b h = elim (either_side a b) [ inl l ↦ inl l | inr l ↦ inr (omega arith) ]
 
-inj : (x y : ℕ) (xs ys : List ℕ) → x ∷ xs ≡ y ∷ ys → (x ≡ y) × (xs ≡ ys)
+pub inj : (x y : ℕ) (xs ys : List ℕ) → x ∷ xs ≡ y ∷ ys → (x ≡ y) × (xs ≡ ys)
 inj x y xs ys e = (cc, cc)
 
-covers_more : (p : ℕ × List ℕ) (ps : Pieces) (n q : ℕ) → p.0 ≡ n → Covers ps (n + length p.1) q → Covers (p ∷ ps) n q
+pub covers_more : (p : ℕ × List ℕ) (ps : Pieces) (n q : ℕ) → p.0 ≡ n → Covers ps (n + length p.1) q → Covers (p ∷ ps) n q
 covers_more p ps n q e c =
     ap (λ (r : List ℕ). p.0 ∷ r) (c ∙ ap (λ (s : ℕ). (s + length p.1) ∷ map end_of ps) (sym e)) ∙ ap (λ (s : ℕ). s ∷ map end_of (p ∷ ps)) e
 
-covers_first : (p : ℕ × List ℕ) (ps : Pieces) (n q : ℕ) → Covers (p ∷ ps) n q → (p.0 ≡ n) × Covers ps (n + length p.1) q
+pub covers_first : (p : ℕ × List ℕ) (ps : Pieces) (n q : ℕ) → Covers (p ∷ ps) n q → (p.0 ≡ n) × Covers ps (n + length p.1) q
 covers_first p ps n q c =
     let h : (p.0 ≡ n) × (map start_of ps ++ q ∷ [] ≡ map end_of (p ∷ ps)) = inj p.0 n (map start_of ps ++ q ∷ []) (map end_of (p ∷ ps)) c in
     (h.0, h.1 ∙ ap (λ (s : ℕ). (s + length p.1) ∷ map end_of ps) h.0)
 
-ends_gap : (n q : ℕ) → n < q → first_trouble [] n q ≡ Some (Gap n)
+pub ends_gap : (n q : ℕ) → n < q → first_trouble [] n q ≡ Some (Gap n)
 ends_gap n q l = rw (lt_true n q l) refl
 
 ends_wrong : (n q : ℕ) → q < n → first_trouble [] n q ≡ Some WrongPosition
 ends_wrong n q l = rw (lt_false n q (omega arith), lt_true q n l) refl
 
-ends_well : (n : ℕ) → first_trouble [] n n ≡ None
+pub ends_well : (n : ℕ) → first_trouble [] n n ≡ None
 ends_well n = rw (lt_false n n (omega arith)) refl
 
-goes_gap : (p : ℕ × List ℕ) (ps : Pieces) (n q : ℕ) → n < p.0 → first_trouble (p ∷ ps) n q ≡ Some (Gap n)
+pub goes_gap : (p : ℕ × List ℕ) (ps : Pieces) (n q : ℕ) → n < p.0 → first_trouble (p ∷ ps) n q ≡ Some (Gap n)
 goes_gap p ps n q l = rw (lt_true n p.0 l) refl
 
-goes_overlap : (p : ℕ × List ℕ) (ps : Pieces) (n q : ℕ) → p.0 < n → first_trouble (p ∷ ps) n q ≡ Some (Overlap p.0)
+pub goes_overlap : (p : ℕ × List ℕ) (ps : Pieces) (n q : ℕ) → p.0 < n → first_trouble (p ∷ ps) n q ≡ Some (Overlap p.0)
 goes_overlap p ps n q l = rw (lt_false n p.0 (omega arith), lt_true p.0 n l) refl
 
-goes_on : (p : ℕ × List ℕ) (ps : Pieces) (n q : ℕ) → p.0 ≡ n → first_trouble (p ∷ ps) n q ≡ first_trouble ps (n + length p.1) q
+pub goes_on : (p : ℕ × List ℕ) (ps : Pieces) (n q : ℕ) → p.0 ≡ n → first_trouble (p ∷ ps) n q ≡ first_trouble ps (n + length p.1) q
 goes_on p ps n q e = rw (lt_false n p.0 (omega arith), lt_false p.0 n (omega arith)) refl
 
 -- what the way over pieces comes to
-data Outcome (ps : Pieces) (n q : ℕ) : Type 0 where
+pub data Outcome (ps : Pieces) (n q : ℕ) : Type 0 where
   covered : Covers ps n q → first_trouble ps n q ≡ None → Outcome ps n q
   has_gap : (at : ℕ) → HasGap ps n q at → first_trouble ps n q ≡ Some (Gap at) → Outcome ps n q
   has_overlap : (start : ℕ) → HasOverlap ps n start → first_trouble ps n q ≡ Some (Overlap start) → Outcome ps n q
@@ -61,7 +61,7 @@ further p ps n q s (has_overlap start h e) =
     has_overlap start (p ∷ h.0, h.1, h.2, h.3, ap (λ (r : Pieces). p ∷ r) h.4, covers_more p h.0 n h.3 s h.5, h.6) (goes_on p ps n q s ∙ e)
 further p ps n q s (ends_above h e) = ends_above (h.0, covers_more p ps n h.0 s h.1, h.2) (goes_on p ps n q s ∙ e)
 
-outcome : (ps : Pieces) (n q : ℕ) → Outcome ps n q
+pub outcome : (ps : Pieces) (n q : ℕ) → Outcome ps n q
 outcome [] n q =
     elim (either_side n q) [
       | inl l ↦ has_gap n ([], [], refl, refl, l) (ends_gap n q l)
@@ -80,7 +80,7 @@ outcome (p ∷ ps) n q =
     ]
 
 -- behind pieces that lie end to end the way goes on from their end
-past : (front back : Pieces) (n at q : ℕ) → Covers front n at → first_trouble (front ++ back) n q ≡ first_trouble back at q
+pub past : (front back : Pieces) (n at q : ℕ) → Covers front n at → first_trouble (front ++ back) n q ≡ first_trouble back at q
 past [] back n at q c = ap (λ (s : ℕ). first_trouble back s q) (sym (inj at n [] [] c).0)
 past (p ∷ front) back n at q c =
     let h : (p.0 ≡ n) × Covers front (n + length p.1) at = covers_first p front n at c in
@@ -164,7 +164,7 @@ fault_is f q e ne = (
   (λ h. walk_answer f q h.0 ∙ ap refusal h.1),
 )
 
-never_below : (ps : Pieces) (n q : ℕ) → first_trouble ps n q ≡ Some BelowLength → ⊥
+pub never_below : (ps : Pieces) (n q : ℕ) → first_trouble ps n q ≡ Some BelowLength → ⊥
 never_below ps n q e = told (outcome ps n q)
   where
     told : Outcome ps n q → ⊥
@@ -173,7 +173,7 @@ never_below ps n q e = told (outcome ps n q)
     told (has_overlap start h f) = cc
     told (ends_above h f) = cc
 
-never_large : (ps : Pieces) (n q : ℕ) → first_trouble ps n q ≡ Some TooLarge → ⊥
+pub never_large : (ps : Pieces) (n q : ℕ) → first_trouble ps n q ≡ Some TooLarge → ⊥
 never_large ps n q e = told (outcome ps n q)
   where
     told : Outcome ps n q → ⊥

@@ -1,5 +1,5 @@
 -- What contracts see of a file's data, and what each call makes of it. Positions and lengths are bytes.
-use Rattle.std.specs.Prelude.{◌≡◌, ℕ, Bool, ◌+◌, ◌<◌, ◌≤◌, List, [], ◌++◌, length, nat_lt, Option, Some, None, Result, Ok, Err, if◌then◌else◌, All}
+use Rattle.std.specs.Prelude.{◌≡◌, ℕ, Bool, ◌+◌, ◌<◌, ◌≤◌, List, [], ◌∷◌, ◌++◌, length, nat_lt, Option, Some, None, Result, Ok, Err, if◌then◌else◌, All}
 use Rattle.file_data.specs.declared.fault.DataFault.{DataFault}
 use Rattle.file_data.specs.declared.fault.DataFault.TheVariants.{BelowLength, TooLarge}
 use Rattle.file_data.specs.Staging.{pieces_below, pieces_from, bytes_of, with_piece, Ascends, Covers, first_trouble}

@@ -1,5 +1,7 @@
 -- When each trouble of a flush comes, as statements on the whole list of pieces.
 use Rattle.std.specs.Prelude.{◌≡◌, ℕ, ◌<◌, List, [], ◌∷◌, ◌++◌}
+use Rattle.file_data.specs.declared.fault.DataFault.{DataFault}
+use Rattle.file_data.specs.declared.fault.DataFault.TheVariants.{BelowLength, Gap, Overlap, WrongPosition, TooLarge}
 use Rattle.file_data.specs.Staging.{Covers}
 
 -- there is no piece and at is below q, or the first piece starts above at
@@ -21,3 +23,12 @@ HasOverlap pieces n start =
 -- all pieces lie end to end from n to a place above q
 abbrev pub EndsAbove : List (ℕ × List ℕ) → ℕ → ℕ → Type 0
 EndsAbove pieces n q = (at : ℕ) × Covers pieces n at × (q < at)
+
+-- the trouble of a way to a position, where a piece at that position goes on from there: what ends above it overlaps the
+-- piece
+abbrev pub met_by_piece : ℕ → DataFault → DataFault
+met_by_piece position BelowLength = BelowLength
+met_by_piece position (Gap at) = Gap at
+met_by_piece position (Overlap start) = Overlap start
+met_by_piece position WrongPosition = Overlap position
+met_by_piece position TooLarge = TooLarge

@@ -1,10 +1,11 @@
-ghost use Rattle.std.specs.Prelude.{◌≡◌, ℕ, ◌+◌, ◌++◌, ◌<◌, ◌≤◌, [], length, slice_range, if◌then◌else◌, IfOk, OnOk, OnErr, IsOk, ◌↔◌};
-ghost use Rattle.file_data.specs.FileRecord.{FileRecord, file_max, IsFile, SameButRoom, OnlyGainsRoom, stage_answer, staged_with, flush_answer, flushed, CanFlush};
+ghost use Rattle.std.specs.Prelude.{◌≡◌, ℕ, ◌+◌, ◌++◌, ◌<◌, ◌≤◌, List, length, slice_range, IfOk, OnOk, OnErr, IsOk, ◌↔◌};
+ghost use Rattle.file_data.specs.FileRecord.{FileRecord, file_max, bare_file, IsFile, AreExtents, SameButRoom, OnlyGainsRoom, stage_answer, staged_with, flush_answer, flushed, CanFlush, append_flush_answer};
 
+use super::extents::append_range;
 use super::fault::DataFault;
 use super::shared_piece::SharedPiece;
 use super::walk::{
-    append_pieces, copy_pieces, count_below, count_bytes, keep_pieces, put_piece, trouble,
+    append_trouble, clear_unless, copy_pieces, count_below, move_pieces, put_piece, trouble,
 };
 use std::alloc::{AllocError, Global};
 use std::marker::Model;
@@ -12,10 +13,12 @@ use std::marker::Model;
 /// The most bytes that a file may have.
 pub const FILE_MAX: u64 = 268_435_456;
 
-/// The bytes of a file, and the pieces that were appended to it and not flushed yet.
+/// The bytes of a file, and the pieces that were appended to it and not flushed yet. The bytes are kept as extents, which
+/// are the pieces that were flushed.
 #[derive(Drop)]
 pub struct FileData {
-    committed: Vec<u8>,
+    len: u64,
+    extents: Vec<(u64, SharedPiece)>,
     staged: Vec<(u64, SharedPiece)>,
     flush_room: u64,
 }
@@ -36,10 +39,11 @@ impl Model for FileData {
 impl FileData {
     /// A file without bytes. It takes no memory.
     pub fn new(alloc: Global) -> FileData
-        ensures { result ≡ record { committed = []; staged = []; stage_room = 0; flush_room = 0 } }
+        ensures { result ≡ bare_file }
     {
         FileData {
-            committed: Vec::new(alloc),
+            len: 0,
+            extents: Vec::new(alloc),
             staged: Vec::new(alloc),
             flush_room: 0,
         }
@@ -49,8 +53,9 @@ impl FileData {
     pub fn len(&self) -> u64
         ensures len { result ≡ length self.now.committed }
         ensures kept { IsFile self.now.committed self.now.staged }
+        ensures extents { AreExtents self.now.committed self.now.extents }
     {
-        self.committed.len() as u64
+        self.len
     }
 
     /// Makes room for one call of `stage`. The one error is want of memory; it may leave more room than before.
@@ -67,10 +72,22 @@ impl FileData {
         ensures room { OnOk result (0 < self.new.flush_room) }
         ensures same { OnlyGainsRoom self.old self.new }
     {
-        let most = FILE_MAX as usize - self.committed.len();
-        let count = count_bytes(self.staged.as_slice(), most);
-        self.committed.reserve(count)?;
+        self.extents.reserve(self.staged.len())?;
         self.flush_room = 1;
+        Ok(())
+    }
+
+    /// Whether a piece of `len` bytes may be staged at a position, in bytes; it is where the position isn't below the
+    /// length and the piece would not end above `FILE_MAX`. The errors are `BelowLength`, else `TooLarge`.
+    pub fn can_stage(&self, position: u64, len: u64) -> Result<(), DataFault>
+        ensures answer { (bytes : List ℕ) → length bytes ≡ len → result ≡ stage_answer self.now position bytes }
+    {
+        if position < self.len {
+            return Err(DataFault::BelowLength);
+        }
+        if FILE_MAX < position || FILE_MAX - position < len {
+            return Err(DataFault::TooLarge);
+        }
         Ok(())
     }
 
@@ -85,12 +102,9 @@ impl FileData {
         ensures room { self.old.stage_room ≤ self.new.stage_room + 1 }
         ensures refused { OnErr result (self.new ≡ self.old) }
     {
-        let len = piece.bytes().len() as u64;
-        if position < self.len() {
-            return Err(DataFault::BelowLength);
-        }
-        if FILE_MAX < position || FILE_MAX - position < len {
-            return Err(DataFault::TooLarge);
+        match self.can_stage(position, piece.bytes().len() as u64) {
+            Ok(()) => {}
+            Err(fault) => return Err(fault),
         }
         put_piece(&mut self.staged, position, piece);
         self.flush_room = 0;
@@ -103,19 +117,31 @@ impl FileData {
     pub fn can_flush(&self, position: u64) -> Result<(), DataFault>
         ensures { result ≡ flush_answer self.now position }
     {
-        let len = self.len();
-        if position < len {
+        if position < self.len {
             return Err(DataFault::BelowLength);
         }
         let count = count_below(self.staged.as_slice(), position);
-        match trouble(&self.staged.as_slice()[..count], len, position) {
+        match trouble(&self.staged.as_slice()[..count], self.len, position) {
+            None => Ok(()),
+            Some(fault) => Err(fault),
+        }
+    }
+
+    /// Whether a piece of `len` bytes may be staged at a position, in bytes, and then flushed with what is before it, by
+    /// a flush to its end. The errors are those of `can_stage`, else those of `can_flush` after the stage.
+    pub fn can_append_flush(&self, position: u64, len: u64) -> Result<(), DataFault>
+        requires { 0 < len }
+        ensures answer { (bytes : List ℕ) → length bytes ≡ len → result ≡ append_flush_answer self.now position bytes }
+    {
+        self.can_stage(position, len)?;
+        match append_trouble(self.staged.as_slice(), self.len, position, len) {
             None => Ok(()),
             Some(fault) => Err(fault),
         }
     }
 
     /// Appends the staged pieces below a position, in bytes, and keeps the rest where `retain` is true and else drops
-    /// it. The errors are those of `can_flush`; then nothing changes.
+    /// it. No byte is copied: each piece becomes an extent. The errors are those of `can_flush`; then nothing changes.
     pub fn flush(&mut self, position: u64, retain: bool) -> Result<(), DataFault>
         requires { 0 < self.old.flush_room }
         ensures answer { result ≡ flush_answer self.old position }
@@ -126,8 +152,9 @@ impl FileData {
     {
         self.can_flush(position)?;
         let count = count_below(self.staged.as_slice(), position);
-        append_pieces(&mut self.committed, &self.staged.as_slice()[..count]);
-        keep_pieces(&mut self.staged, position, retain);
+        move_pieces(&mut self.extents, &mut self.staged, count);
+        clear_unless(&mut self.staged, retain);
+        self.len = position;
         self.flush_room = 0;
         Ok(())
     }
@@ -139,21 +166,19 @@ impl FileData {
         ensures ok { OnOk result (out.new.items ≡ out.old.items ++ slice_range self.now.committed from (from + n)) }
         ensures err { OnErr result (out.new.items ≡ out.old.items) }
     {
-        let bytes = self.committed.as_slice();
-        let start = from as usize;
-        let end = (from + n) as usize;
-        out.extend_from_slice(&bytes[start..end])
+        out.reserve(n as usize)?;
+        append_range(self.extents.as_slice(), from, from + n, out);
+        Ok(())
     }
 
-    /// Another file with the same bytes and pieces, and the same room. A piece is shared and not copied. The one error
-    /// is want of memory, or that no more owners of a piece can be counted.
+    /// Another file with the same extents and pieces, and the same room. They are shared, and no byte is copied. The one
+    /// error is want of memory, or that no more owners of a piece can be counted.
     pub fn copy(&self, alloc: Global) -> Result<FileData, AllocError>
         ensures { IfOk result (λ file. file ≡ self.now) }
     {
-        let mut committed = Vec::with_capacity(alloc, self.committed.capacity())?;
-        committed.extend_from_slice(self.committed.as_slice())?;
         Ok(FileData {
-            committed,
+            len: self.len,
+            extents: copy_pieces(alloc, &self.extents)?,
             staged: copy_pieces(alloc, &self.staged)?,
             flush_room: self.flush_room,
         })

@@ -1,10 +1,11 @@
 //! What staging and flushing keep, in plain words. Each law is the contract of a function that does nothing, and speaks
 //! of every file, every position and every list of pieces.
 
-ghost use Rattle.std.specs.Prelude.{◌≡◌, ◌≢◌, ◌↔◌, ℕ, ◌+◌, ◌<◌, ◌≤◌, Bool, true, false, List, [], length, slice_range, Ok, Err, None};
+ghost use Rattle.std.specs.Prelude.{◌≡◌, ◌≢◌, ◌↔◌, ◌⊎◌, ℕ, ◌+◌, ◌<◌, ◌≤◌, Bool, true, false, List, [], ◌∷◌, length, slice_range, Ok, Err, None};
+ghost use Rattle.file_data.specs.declared.fault.DataFault.{DataFault};
 ghost use Rattle.file_data.specs.declared.fault.DataFault.TheVariants.{BelowLength, Gap, Overlap, WrongPosition, TooLarge};
 ghost use Rattle.file_data.specs.Staging.{pieces_below, bytes_of, Covers, first_trouble};
-ghost use Rattle.file_data.specs.FileRecord.{FileRecord, file_max, IsFile, SameButRoom, CanFlush, stage_answer, staged_with, flush_answer, flushed};
+ghost use Rattle.file_data.specs.FileRecord.{FileRecord, bare_file, file_max, IsFile, AreExtents, SameButRoom, CanFlush, stage_answer, staged_with, flush_answer, flushed, end_at, CanAppendFlush, append_flush_answer, append_flushed};
 ghost use Rattle.file_data.specs.Troubles.{HasGap, HasOverlap, EndsAbove};
 ghost use Rattle.file_data.specs.Orders.{staged_all, reordered, StartApart};
 
@@ -64,6 +65,42 @@ pub fn pieces_are_staged_in_any_order()
         staged_all (reordered exchanges pieces) f ≡ staged_all pieces f }
     ensures answer { (f : FileRecord) (q r : ℕ) (first second : List ℕ) →
         stage_answer (staged_with f q first) r second ≡ stage_answer f r second }
+{}
+
+/// A second piece at one position takes the place of the first, whatever the first one was.
+pub fn a_second_piece_replaces_the_first()
+    ensures { (f : FileRecord) (q : ℕ) (first second : List ℕ) →
+        staged_with (staged_with f q first) q second ≡ staged_with f q second }
+{}
+
+/// An append with flush is allowed exactly where its stage is and then its flush; else its fault is that of the stage, or,
+/// where the stage is allowed, that of the flush.
+pub fn an_append_with_flush_is_both_steps()
+    ensures allowed { (f : FileRecord) (q : ℕ) (bytes : List ℕ) → ((append_flush_answer f q bytes ≡ Ok tt) ↔ CanAppendFlush f q bytes) }
+    ensures refused { (f : FileRecord) (q : ℕ) (bytes : List ℕ) (fault : DataFault) → ((append_flush_answer f q bytes ≡ Err fault)
+        ↔ ((stage_answer f q bytes ≡ Err fault)
+        ⊎ ((stage_answer f q bytes ≡ Ok tt) × (flush_answer (staged_with f q bytes) (end_at q bytes) ≡ Err fault)))) }
+{}
+
+/// After an allowed append with flush the file ends where the piece does, and its last bytes are those of the piece.
+pub fn what_was_appended_and_flushed_is_read()
+    ensures length { (f : FileRecord) (q : ℕ) (bytes : List ℕ) (retain : Bool) → CanAppendFlush f q bytes →
+        length (append_flushed f q bytes retain).committed ≡ end_at q bytes }
+    ensures last { (f : FileRecord) (q : ℕ) (bytes : List ℕ) (retain : Bool) → CanAppendFlush f q bytes → 0 < length bytes →
+        slice_range (append_flushed f q bytes retain).committed q (end_at q bytes) ≡ bytes }
+{}
+
+/// Of an empty file with `abc` staged at 0 and `defg` at 3 a flush to 7 makes two extents, at 0 and at 3.
+pub fn a_worked_file_has_two_extents()
+    ensures { (flushed (staged_with (staged_with bare_file 0 (97 ∷ 98 ∷ 99 ∷ [])) 3 (100 ∷ 101 ∷ 102 ∷ 103 ∷ [])) 7 false).extents
+        ≡ (0, 97 ∷ 98 ∷ 99 ∷ []) ∷ (3, 100 ∷ 101 ∷ 102 ∷ 103 ∷ []) ∷ [] }
+{}
+
+/// The extents of a file go on being as they have to be over an allowed flush: none is empty, they lie end to end, and
+/// their bytes are the file's.
+pub fn a_flush_leaves_extents()
+    ensures { (f : FileRecord) (q : ℕ) (retain : Bool) → IsFile f.committed f.staged → AreExtents f.committed f.extents → CanFlush f q →
+        AreExtents (flushed f q retain).committed (flushed f q retain).extents }
 {}
 
 /// After an allowed flush the file is as long as its position says, what is read behind the old length is the bytes

@@ -1,5 +1,6 @@
-ghost use Rattle.std.specs.Prelude.{◌≡◌, ℕ, ◌+◌, ◌++◌, ◌<◌, ◌≤◌, List, [], length, min, take, drop, vec_len, vec_capacity, if◌then◌else◌, All, IfOk};
-ghost use Rattle.file_data.specs.Staging.{pieces_below, pieces_from, bytes_of, with_piece, Ascends, first_trouble, end_of};
+ghost use Rattle.std.specs.Prelude.{◌≡◌, ℕ, ◌+◌, ◌++◌, ◌<◌, ◌≤◌, List, [], length, nat_lt, reverse, take, drop, vec_len, vec_capacity, if◌then◌else◌, All, IfOk};
+ghost use Rattle.file_data.specs.Staging.{pieces_below, pieces_from, pieces_above, with_piece, Ascends, first_trouble, end_of};
+ghost use Rattle.file_data.specs.Troubles.{met_by_piece};
 ghost use Rattle.file_data.specs.FileRecord.{file_max};
 
 use super::fault::DataFault;
@@ -13,18 +14,17 @@ pub(crate) fn count_below(pieces: &[(u64, SharedPiece)], position: u64) -> usize
     ensures front { take result pieces.now ≡ pieces_below pieces.now position }
     ensures back { drop result pieces.now ≡ pieces_from pieces.now position }
 {
-    for (at, piece) in pieces.iter().enumerate() {
-        if position <= piece.0 {
-            return at;
-        }
-    }
-    pieces.len()
+    pieces.partition_point(
+        |piece: &(u64, SharedPiece)| -> bool
+            ensures { result ≡ nat_lt piece.now.0 position }
+        { piece.0 < position },
+    )
 }
 
 // The first trouble on the way over the pieces.
 pub(crate) fn trouble(pieces: &[(u64, SharedPiece)], from: u64, to: u64) -> Option<DataFault>
     requires { All (λ (piece : ℕ × List ℕ). end_of piece ≤ file_max) pieces.now }
-    ensures { result ≡ first_trouble pieces.now from to }
+    ensures met { result ≡ first_trouble pieces.now from to }
 {
     let mut at = from;
     for piece in pieces {
@@ -45,31 +45,91 @@ pub(crate) fn trouble(pieces: &[(u64, SharedPiece)], from: u64, to: u64) -> Opti
     None
 }
 
-// How many bytes the pieces have together, or `most` where they have more.
-pub(crate) fn count_bytes(pieces: &[(u64, SharedPiece)], most: usize) -> usize
-    ensures { result ≡ min (length (bytes_of pieces.now)) most }
+// The first trouble of a flush to the end of a piece that is put at a position, over what is there.
+pub(crate) fn append_trouble(
+    pieces: &[(u64, SharedPiece)],
+    from: u64,
+    position: u64,
+    len: u64,
+) -> Option<DataFault>
+    requires ascends { Ascends pieces.now }
+    requires ends { All (λ (piece : ℕ × List ℕ). end_of piece ≤ file_max) pieces.now }
+    requires filled { 0 < len }
+    requires within { position + len ≤ file_max }
+    ensures { (bytes : List ℕ) → length bytes ≡ len
+        → result ≡ first_trouble (pieces_below (with_piece pieces.now position bytes) (position + len)) from (position + len) }
 {
-    let mut count = 0;
-    for piece in pieces {
-        let len = piece.1.bytes().len();
-        if most - count <= len {
-            return most;
-        }
-        count += len;
+    let count = count_below(pieces, position);
+    match trouble(&pieces[..count], from, position) {
+        None => first_inside(pieces, position, position + len),
+        Some(fault) => Some(at_piece(fault, position)),
     }
-    count
 }
 
-// Appends the bytes of the pieces, for which there is room.
-pub(crate) fn append_pieces(committed: &mut Vec<u8>, pieces: &[(u64, SharedPiece)])
-    requires { vec_len committed.old + length (bytes_of pieces.now) ≤ vec_capacity committed.old }
-    ensures items { committed.new.items ≡ committed.old.items ++ bytes_of pieces.now }
+// The trouble of a way to a position, where a piece at that position goes on from there.
+fn at_piece(fault: DataFault, position: u64) -> DataFault
+    ensures { result ≡ met_by_piece position fault }
 {
-    for piece in pieces {
-        match committed.extend_from_slice(piece.1.bytes()) {
+    match fault {
+        DataFault::WrongPosition => DataFault::Overlap(position),
+        other => other,
+    }
+}
+
+// The overlap of the first piece that starts above a position and below an end.
+fn first_inside(pieces: &[(u64, SharedPiece)], position: u64, end: u64) -> Option<DataFault>
+    requires ascends { Ascends pieces.now }
+    requires filled { position < end }
+    ensures { result ≡ first_trouble (pieces_below (pieces_above pieces.now position) end) end end }
+{
+    let next = count_below(pieces, position + 1);
+    if pieces.len() <= next {
+        return None;
+    }
+    let start = pieces[next].0;
+    if end <= start {
+        return None;
+    }
+    Some(DataFault::Overlap(start))
+}
+
+// Moves the first staged pieces behind the extents, for which there is room. They are taken from the end of the list
+// while it is turned round.
+pub(crate) fn move_pieces(
+    extents: &mut Vec<(u64, SharedPiece)>,
+    staged: &mut Vec<(u64, SharedPiece)>,
+    count: usize,
+)
+    requires within { count ≤ vec_len staged.old }
+    requires room { vec_len extents.old + count ≤ vec_capacity extents.old }
+    ensures extents { extents.new.items ≡ extents.old.items ++ take count staged.old.items }
+    ensures staged { staged.new.items ≡ drop count staged.old.items }
+    ensures len { vec_len staged.new ≤ vec_len staged.old }
+    ensures room { vec_capacity staged.new ≡ vec_capacity staged.old }
+{
+    staged.reverse();
+    for _piece in 0..count {
+        move_last(extents, staged);
+    }
+    staged.reverse();
+}
+
+// Moves the last staged piece behind the extents, for which there is room.
+fn move_last(extents: &mut Vec<(u64, SharedPiece)>, staged: &mut Vec<(u64, SharedPiece)>)
+    requires filled { 0 < vec_len staged.old }
+    requires room { vec_len extents.old < vec_capacity extents.old }
+    ensures items { extents.new.items ++ reverse staged.new.items ≡ extents.old.items ++ reverse staged.old.items }
+    ensures added { vec_len extents.new ≡ vec_len extents.old + 1 }
+    ensures taken { vec_len staged.new + 1 ≡ vec_len staged.old }
+    ensures extents_room { vec_capacity extents.old ≤ vec_capacity extents.new }
+    ensures staged_room { vec_capacity staged.new ≡ vec_capacity staged.old }
+{
+    match staged.pop() {
+        Some(piece) => match extents.push(piece) {
             Ok(()) => {}
             Err(_) => unreachable!(),
-        }
+        },
+        None => unreachable!(),
     }
 }
 
@@ -90,15 +150,13 @@ pub(crate) fn put_piece(pieces: &mut Vec<(u64, SharedPiece)>, position: u64, pie
     }
 }
 
-// Drops the pieces below a position, and also the others unless they are to be retained.
-pub(crate) fn keep_pieces(pieces: &mut Vec<(u64, SharedPiece)>, position: u64, retain: bool)
-    ensures items { pieces.new.items ≡ (if retain then pieces_from pieces.old.items position else []) }
+// Drops the pieces unless they are to be retained.
+pub(crate) fn clear_unless(pieces: &mut Vec<(u64, SharedPiece)>, retain: bool)
+    ensures items { pieces.new.items ≡ (if retain then pieces.old.items else []) }
     ensures len { vec_len pieces.new ≤ vec_len pieces.old }
     ensures room { vec_capacity pieces.new ≡ vec_capacity pieces.old }
 {
-    if retain {
-        pieces.retain(|piece| position <= piece.0);
-    } else {
+    if !retain {
         pieces.clear();
     }
 }

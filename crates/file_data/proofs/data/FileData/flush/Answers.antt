@@ -1,38 +1,52 @@
-use Rattle.std.proofs.Common.{ℕ, ◌≡◌, ◌++◌, cond, [], List, take, ap, sym, ◌∙◌, arith}
-use Rattle.std.specs.Prelude.{vec_len, vec_capacity}
+use Rattle.std.proofs.Common.{ℕ, ◌≡◌, ◌++◌, cond, [], List, length, take, drop, None, ap, sym, ◌∙◌, arith}
 use Rattle.file_data.specs.FileRecord.{FileRecord}
 use Rattle.file_data.specs.FileInside.{record_of}
-use Rattle.file_data.specs.Staging.{pieces_below, pieces_from, bytes_of}
-use Rattle.file_data.proofs.FileLemmas.{allowed_as, has_flush_room, flush_room_is_enough, after_flush}
+use Rattle.file_data.specs.Staging.{pieces_below, pieces_from, bytes_of, first_trouble}
+use Rattle.file_data.proofs.StagingLemmas.{bytes-append}
+use Rattle.file_data.proofs.FileLemmas.{allowed_as}
+use Rattle.file_data.proofs.ExtentLemmas.{flush_extends, flush_leaves, flush_ends}
 use Rattle.file_data.proofs.data.FileData.flush.Goals as goal
-
-pub append_pieces-requires : goal.append_pieces-requires
-append_pieces-requires c =
-    let front : take c.count_below-count.result c.as_slice-2.result.now ≡ pieces_below c.self.inside.staged.items c.args.position =
-    ap (λ (ps : List (ℕ × List ℕ)). take c.count_below-count.result ps) (c.as_slice-2.ensures.value ∙ sym c.as_slice.ensures.value)
-    ∙ c.count_below-count.ensures.front ∙ ap (λ (ps : List (ℕ × List ℕ)). pieces_below ps c.args.position) c.as_slice.ensures.value in
-    rw front
-    (flush_room_is_enough c.self.inside.committed.items c.self.inside.staged.items c.args.position (vec_len c.self.inside.committed) (vec_capacity c.self.inside.committed) c.self.invariant.file
-    (allowed_as (record_of c.self.inside) c.args.self.now c.self.view_is c.args.position c.in_ok-can_flush.ensures).1
-    (omega arith)
-    (c.self.invariant.ready (has_flush_room (record_of c.self.inside) c.args.self.now c.self.view_is c.requires)))
 
 pub invariant_of-self : goal.invariant_of-self
 invariant_of-self c =
-    let front : take c.count_below-count.result c.as_slice-2.result.now ≡ pieces_below c.self.inside.staged.items c.args.position =
-    ap (λ (ps : List (ℕ × List ℕ)). take c.count_below-count.result ps) (c.as_slice-2.ensures.value ∙ sym c.as_slice.ensures.value)
+    let extents = c.self.inside.extents.items in
+    let staged = c.self.inside.staged.items in
+    let front : take c.count_below-count.result staged ≡ pieces_below staged c.args.position =
+    ap (λ (ps : List (ℕ × List ℕ)). take c.count_below-count.result ps) (sym c.as_slice.ensures.value)
     ∙ c.count_below-count.ensures.front ∙ ap (λ (ps : List (ℕ × List ℕ)). pieces_below ps c.args.position) c.as_slice.ensures.value in
-    let kept = after_flush c.self.inside.committed.items c.self.inside.staged.items c.args.position c.args.retain c.self.invariant.file
-    (allowed_as (record_of c.self.inside) c.args.self.now c.self.view_is c.args.position c.in_ok-can_flush.ensures).1 in
-    record { file = rw (c.append_pieces.ensures.items, front, c.keep_pieces.ensures.items) kept; room = omega arith; ready = λ h. absurd (omega arith) }
+    let back : drop c.count_below-count.result staged ≡ pieces_from staged c.args.position =
+    ap (λ (ps : List (ℕ × List ℕ)). drop c.count_below-count.result ps) (sym c.as_slice.ensures.value)
+    ∙ c.count_below-count.ensures.back ∙ ap (λ (ps : List (ℕ × List ℕ)). pieces_from ps c.args.position) c.as_slice.ensures.value in
+    let may = allowed_as (record_of c.self.inside) c.args.self.now c.self.view_is c.args.position c.in_ok-can_flush.ensures in
+    let none : first_trouble (pieces_below staged c.args.position) (length (bytes_of extents)) c.args.position ≡ None = may.1 in
+    let added : c.move_pieces.new.extents.items ≡ extents ++ pieces_below staged c.args.position =
+    c.move_pieces.ensures.extents ∙ ap (λ (ps : List (ℕ × List ℕ)). extents ++ ps) front in
+    let left : c.clear_unless.new.pieces.items ≡ cond c.args.retain (pieces_from staged c.args.position) [] =
+    c.clear_unless.ensures.items ∙ ap (λ (ps : List (ℕ × List ℕ)). cond c.args.retain ps []) (c.move_pieces.ensures.staged ∙ back) in
+    record {
+      file = rw (added, left) (flush_leaves extents staged c.args.position c.args.retain c.self.invariant.file none);
+      extents = rw added (flush_extends extents staged c.args.position c.self.invariant.file c.self.invariant.extents none may.0);
+      len = rw added (flush_ends extents staged c.args.position none);
+      room = omega arith;
+      ready = λ h. absurd (omega arith);
+    }
 
 pub returns-clause-flushed : goal.returns-clause-flushed
 returns-clause-flushed c =
-    let front : take c.count_below-count.result c.as_slice-2.result.now ≡ pieces_below c.self.inside.staged.items c.args.position =
-    ap (λ (ps : List (ℕ × List ℕ)). take c.count_below-count.result ps) (c.as_slice-2.ensures.value ∙ sym c.as_slice.ensures.value)
+    let extents = c.self.inside.extents.items in
+    let staged = c.self.inside.staged.items in
+    let front : take c.count_below-count.result staged ≡ pieces_below staged c.args.position =
+    ap (λ (ps : List (ℕ × List ℕ)). take c.count_below-count.result ps) (sym c.as_slice.ensures.value)
     ∙ c.count_below-count.ensures.front ∙ ap (λ (ps : List (ℕ × List ℕ)). pieces_below ps c.args.position) c.as_slice.ensures.value in
-    let committed : c.append_pieces.new.committed.items ≡ c.self.inside.committed.items ++ bytes_of (pieces_below c.self.inside.staged.items c.args.position) =
-    c.append_pieces.ensures.items ∙ ap (λ (ps : List (ℕ × List ℕ)). c.self.inside.committed.items ++ bytes_of ps) front in (
-      committed ∙ ap (λ (f : FileRecord). f.committed ++ bytes_of (pieces_below f.staged c.args.position)) c.self.view_is,
-      c.keep_pieces.ensures.items ∙ ap (λ (f : FileRecord). cond c.args.retain (pieces_from f.staged c.args.position) []) c.self.view_is,
+    let back : drop c.count_below-count.result staged ≡ pieces_from staged c.args.position =
+    ap (λ (ps : List (ℕ × List ℕ)). drop c.count_below-count.result ps) (sym c.as_slice.ensures.value)
+    ∙ c.count_below-count.ensures.back ∙ ap (λ (ps : List (ℕ × List ℕ)). pieces_from ps c.args.position) c.as_slice.ensures.value in
+    let added : c.move_pieces.new.extents.items ≡ extents ++ pieces_below staged c.args.position =
+    c.move_pieces.ensures.extents ∙ ap (λ (ps : List (ℕ × List ℕ)). extents ++ ps) front in
+    let left : c.clear_unless.new.pieces.items ≡ cond c.args.retain (pieces_from staged c.args.position) [] =
+    c.clear_unless.ensures.items ∙ ap (λ (ps : List (ℕ × List ℕ)). cond c.args.retain ps []) (c.move_pieces.ensures.staged ∙ back) in (
+      ap bytes_of added ∙ bytes-append extents (pieces_below staged c.args.position)
+          ∙ ap (λ (f : FileRecord). f.committed ++ bytes_of (pieces_below f.staged c.args.position)) c.self.view_is,
+      added ∙ ap (λ (f : FileRecord). f.extents ++ pieces_below f.staged c.args.position) c.self.view_is,
+      left ∙ ap (λ (f : FileRecord). cond c.args.retain (pieces_from f.staged c.args.position) []) c.self.view_is,
     )

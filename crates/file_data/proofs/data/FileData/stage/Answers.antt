@@ -1,16 +1,21 @@
-use Rattle.std.proofs.Common.{◌≡◌, ◌≤◌, ◌+◌, length, ap, arith}
-use Rattle.file_data.specs.FileRecord.{IsFile, file_max}
+use Rattle.std.proofs.Common.{length, ap, sym, arith}
+use Rattle.file_data.specs.FileRecord.{IsFile}
 use Rattle.file_data.specs.FileInside.{record_of}
-use Rattle.file_data.specs.Staging.{with_piece}
-use Rattle.file_data.proofs.FileLemmas.{stage_keeps, has_length}
+use Rattle.file_data.specs.Staging.{bytes_of, with_piece}
+use Rattle.file_data.proofs.FileLemmas.{stage_keeps}
+use Rattle.file_data.proofs.OrderLemmas.{staged_as}
 use Rattle.file_data.proofs.data.FileData.stage.Goals as goal
 
 pub invariant_of-self : goal.invariant_of-self
 invariant_of-self c =
-    let same : length c.bytes.result.now ≡ length c.args.piece = ap length c.bytes.ensures in
-    let low : length c.self.inside.committed.items ≤ c.args.position =
-    has_length (record_of c.self.inside) c.args.self.now c.self.view_is c.len.result c.args.position c.len.ensures.len c.if-position-len.false in
-    let high : c.args.position + length c.args.piece ≤ file_max = omega arith in
-    let kept : IsFile c.self.inside.committed.items (with_piece c.self.inside.staged.items c.args.position c.args.piece) =
-    stage_keeps c.self.inside.committed.items c.self.inside.staged.items c.args.position c.args.piece c.self.invariant.file low c.requires.filled high in
-    record { file = rw c.put_piece.ensures.items kept; room = omega arith; ready = λ h. absurd (omega arith) }
+    let may = staged_as (record_of c.self.inside) c.args.self.now c.self.view_is c.args.position c.args.piece
+    (c.in-Ok.ensures.answer c.args.piece (ap length (sym c.bytes.ensures))) in
+    let kept : IsFile (bytes_of c.self.inside.extents.items) (with_piece c.self.inside.staged.items c.args.position c.args.piece) =
+    stage_keeps (bytes_of c.self.inside.extents.items) c.self.inside.staged.items c.args.position c.args.piece c.self.invariant.file may.0 c.requires.filled may.1 in
+    record {
+      file = rw c.put_piece.ensures.items kept;
+      extents = c.self.invariant.extents;
+      len = c.self.invariant.len;
+      room = omega arith;
+      ready = λ h. absurd (omega arith);
+    }

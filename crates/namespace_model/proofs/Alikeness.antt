@@ -1,20 +1,23 @@
 -- Two maps that are alike where a step touches the first one: the words of a step one by one.
-use Rattle.std.proofs.Common.{◌≡◌, ◌⊎◌, inl, inr, ℕ, Bool, true, false, List, [], ◌∷◌, ◌++◌, Option, Some, None, is_some, unwrap_or, refl, ap, sym, subst, ◌∙◌, append_assoc}
+use Rattle.std.proofs.Common.{◌≡◌, ◌⊎◌, inl, inr, ℕ, Bool, true, false, cond, List, [], ◌∷◌, ◌++◌, Option, Some, None, is_some, unwrap_or, Result, Ok, Err, refl, ap, sym, subst, ◌∙◌, append_assoc}
 use Rattle.std.proofs.lemmas.Bool.{false≢true}
 use Rattle.std.proofs.lemmas.List.{append-nil}
 use Rattle.path_text.specs.Paths.{is_prefix}
 use Rattle.namespace_model.specs.declared.caller.Caller.{Caller}
 use Rattle.namespace_model.specs.declared.code.Code.{Code}
 use Rattle.namespace_model.specs.declared.code.Code.TheVariants.{PathNotFound}
+use Rattle.namespace_model.specs.declared.denied.Refusal.{Refusal}
 use Rattle.namespace_model.specs.declared.reply.Reply.{Reply}
 use Rattle.namespace_model.specs.declared.request.Entry.{Entry}
 use Rattle.namespace_model.specs.Nodes.{Node, is_directory, blank}
 use Rattle.namespace_model.specs.Trees.{Path, Tree, at, node_at, parent, keys_where, is_child, IsLaid, IsDirectory}
-use Rattle.namespace_model.specs.Refusals.{lacks, caller_of, or_else, first_refusal}
-use Rattle.namespace_model.specs.Outcomes.{Outcome, touched, reading, refused, unless, noted, within}
-use Rattle.namespace_model.specs.Walks.{way, walk, entered, passed, missing_below, missing_code}
+use Rattle.namespace_model.specs.Refusals.{caller_of, or_else, first_refusal}
+use Rattle.namespace_model.specs.Outcomes.{Outcome, touched, reading, refused, unless, noted}
+use Rattle.namespace_model.specs.Walks.{walk_or, walk, ended, missing_below, missing_code}
+use Rattle.namespace_model.specs.Ways.{Way, reached, missing, blocked, closed, may_enter, passed, met, way_from, behind, seen, read_from, way_of, read_on}
 use Rattle.namespace_model.specs.Looks.{found}
 use Rattle.namespace_model.specs.Locality.{Among, Alike}
+use Rattle.namespace_model.proofs.WayLemmas.{IsReadBy, base_read}
 use Rattle.namespace_model.proofs.Lookups.{keys_same, among_keys}
 use Rattle.namespace_model.proofs.Prefixes.{child_name, parent_name, behind_front, front_of_append, front_of_itself}
 
@@ -93,16 +96,6 @@ module _ (s t : Tree) (laid_s : IsLaid s) (laid_t : IsLaid t) where
       → ((x : Node) → Alike s t p → (at s p ≡ Some x → at t p ≡ Some x) → AlikeOn (f x) → f x ≡ g x) → AlikeOn (noted (at s p) p none f) → noted (at s p) p none f ≡ noted (at t p) p none' g
   noted_same p none none' f g e same_none same_some h = noted_of (at s p) (at t p) p none none' f g e same_none same_some (λ alike. alike.node) h
 
-  within_of : (u v : Option Node) (none none' : Outcome) (f g : Node → Outcome) → u ≡ v → (AlikeOn none → none ≡ none')
-      → ((x : Node) → AlikeOn (f x) → f x ≡ g x) → AlikeOn (within u none f) → within u none f ≡ within v none' g
-  within_of None v none none' f g e same_none same_some h = same_none h ∙ ap (λ (w : Option Node). within w none' g) e
-  within_of (Some x) v none none' f g e same_none same_some h = same_some x h ∙ ap (λ (w : Option Node). within w none' g) e
-
-  -- it goes on with a node that was read
-  pub within_same : (p : Path) (none none' : Outcome) (f g : Node → Outcome) → Alike s t p → (AlikeOn none → none ≡ none')
-      → ((x : Node) → AlikeOn (f x) → f x ≡ g x) → AlikeOn (within (at s p) none f) → within (at s p) none f ≡ within (at t p) none' g
-  within_same p none none' f g alike = within_of (at s p) (at t p) none none' f g alike.node
-
   -- a path shows alike where its parent is alike
   pub shown_below : (d : Path) (p : Path) (n : List ℕ) → p ≡ d ++ n ∷ [] → Alike s t d → is_some (at s p) ≡ is_some (at t p)
   shown_below d p n e alike = ap (λ q. is_some (at s q)) e ∙ alike.names n ∙ ap (λ q. is_some (at t q)) (sym e)
@@ -113,42 +106,71 @@ module _ (s t : Tree) (laid_s : IsLaid s) (laid_t : IsLaid t) where
     | inr h ↦ shown_below (parent p) p h.0 h.1 alike
   ]
 
-  passed_same : (caller : Caller) (blocked : Code) (p : Path) (x : Node) (d : Bool) (a b : Outcome) → is_directory x ≡ d → (AlikeOn a → a ≡ b)
-      → AlikeOn (passed caller blocked p x a) → passed caller blocked p x a ≡ passed caller blocked p x b
-  passed_same caller blocked p x true a b e same h =
-      rw (e) (unless_same (lacks caller 1 p x) (lacks caller 1 p x) a b refl same (rw (e) at h))
-  passed_same caller blocked p x false a b e same h = rw (e) refl
+  pub node_same : (p : Path) → Alike s t p → node_at s p ≡ node_at t p
+  node_same p alike = ap (λ (o : Option Node). unwrap_or o blank) alike.node
 
-  entered_of : (caller : Caller) (u v : Option Node) (p : Path) (blocked : Code) (m m' a b : Outcome) → is_some u ≡ is_some v → (AlikeOn m → m ≡ m')
-      → (Alike s t p → u ≡ v) → (Alike s t p → AlikeOn a → a ≡ b) → AlikeOn (entered caller m blocked u p a) → entered caller m blocked u p a ≡ entered caller m' blocked v p b
-  entered_of caller None None p blocked m m' a b e same_m is same h = same_m h
-  entered_of caller None (Some y) p blocked m m' a b e same_m is same h = absurd (false≢true e)
-  entered_of caller (Some x) v p blocked m m' a b e same_m is same h =
-      let alike = h p (inl refl) in
-      let here = is alike in
-      ap (reading (p ∷ [])) (passed_same caller blocked p x (is_directory x) a b refl (same alike) (λ q k. h q (inr k)))
-      ∙ ap (λ (w : Option Node). entered caller m' blocked w p b) here
+  -- a node that is alike, and how the way goes on behind it
+  met_same : (caller : Caller) (done q : Path) (u v : Option Node) (one other : Way) (ps qs : List Path) → is_some u ≡ is_some v → ((o : Path) → Among o (seen caller q u ps) → Alike s t o)
+      → (Alike s t q → u ≡ v) → (Alike s t q → ((o : Path) → Among o ps → Alike s t o) → (one ≡ other) × (ps ≡ qs))
+      → (met caller done q u one ≡ met caller done q v other) × (seen caller q u ps ≡ seen caller q v qs)
+  met_same caller done q None None one other ps qs e alike is on = (refl, refl)
+  met_same caller done q None (Some y) one other ps qs e alike is on = absurd (false≢true e)
+  met_same caller done q (Some x) v one other ps qs e alike is on =
+      let here = alike q (inl refl) in
+      let same = is here in
+      let further = by_kind here (is_directory x) (λ o k. alike o (inr k)) in
+      (further.0 ∙ ap (λ (w : Option Node). met caller done q w other) same, ap (λ (l : List Path). q ∷ l) further.1 ∙ ap (λ (w : Option Node). seen caller q w qs) same)
+    where
+      by_check : Alike s t q → (c : Result Unit Refusal) → ((o : Path) → Among o (behind c ps) → Alike s t o) → (passed q c one ≡ passed q c other) × (behind c ps ≡ behind c qs)
+      by_check here (Ok allowed) more = on here more
+      by_check here (Err r) more = (refl, refl)
 
-  -- the way from a directory that is alike; what comes then may use that its last directory is
-  pub way_same : (caller : Caller) (m m' : Path → Outcome) (blocked : Code) (done names : Path) (a b : Outcome) → Alike s t done
-      → ((d : Path) → Alike s t d → AlikeOn (m d) → m d ≡ m' d) → (Alike s t (done ++ names) → AlikeOn a → a ≡ b)
-      → AlikeOn (way s caller m blocked done names a) → way s caller m blocked done names a ≡ way t caller m' blocked done names b
-  way_same caller m m' blocked done [] a b alike same_m same h = same (subst (λ q. Alike s t q) (sym (append-nil done)) alike) h
-  way_same caller m m' blocked done (n ∷ names) a b alike same_m same h =
-      entered_of caller (at s (done ++ n ∷ [])) (at t (done ++ n ∷ [])) (done ++ n ∷ []) blocked (m done) (m' done) _ _ (alike.names n) (same_m done alike) (λ k. k.node)
-      (λ here. way_same caller m m' blocked (done ++ n ∷ []) names a b here same_m (λ last. same (subst (λ q. Alike s t q) (append_assoc done (n ∷ []) names) last))) h
+      by_kind : Alike s t q → (d : Bool) → ((o : Path) → Among o (cond d (behind (may_enter caller x) ps) []) → Alike s t o)
+          → (cond d (passed q (may_enter caller x) one) (blocked q) ≡ cond d (passed q (may_enter caller x) other) (blocked q)) × (cond d (behind (may_enter caller x) ps) [] ≡ cond d (behind (may_enter caller x) qs) [])
+      by_kind here true more = by_check here (may_enter caller x) more
+      by_kind here false more = (refl, refl)
+
+  -- the way from a directory that is alike, where all that is read on it is
+  pub way_same : (caller : Caller) (done names : Path) → Alike s t done → ((o : Path) → Among o (read_from s caller done names) → Alike s t o)
+      → (way_from s caller done names ≡ way_from t caller done names) × (read_from s caller done names ≡ read_from t caller done names)
+  way_same caller done [] alike reads = (refl, refl)
+  way_same caller done (n ∷ names) alike reads =
+      met_same caller done (done ++ n ∷ []) (at s (done ++ n ∷ [])) (at t (done ++ n ∷ [])) (way_from s caller (done ++ n ∷ []) names) (way_from t caller (done ++ n ∷ []) names)
+      (read_from s caller (done ++ n ∷ []) names) (read_from t caller (done ++ n ∷ []) names) (alike.names n) reads (λ k. k.node) (λ here more. way_same caller (done ++ n ∷ []) names here more)
+
+  ended_same : (lost lost' : Path → Outcome) (code : Code) (a b : Outcome) (ps : List Path) (whole : Path) → ((o : Path) → Among o ps → Alike s t o)
+      → ((d : Path) → Alike s t d → AlikeOn (lost d) → lost d ≡ lost' d) → (Alike s t whole → AlikeOn a → a ≡ b)
+      → (w : Way) → IsReadBy ps whole w → AlikeOn (ended lost code a w) → ended lost code a w ≡ ended lost' code b w
+  ended_same lost lost' code a b ps whole alike same_lost same reached base h = same (alike whole base) h
+  ended_same lost lost' code a b ps whole alike same_lost same (missing d) base h = same_lost d (alike d base) h
+  ended_same lost lost' code a b ps whole alike same_lost same (blocked p) base h = refl
+  ended_same lost lost' code a b ps whole alike same_lost same (closed p r) base h = refl
+
+  -- A walk; what comes then may use that the last directory is alike.
+  pub walk_or_same : (caller : Caller) (lost lost' : Path → Node → Outcome) (code : Code) (p : Path) (next next' : Node → Outcome)
+      → ((d : Path) (x : Node) → Alike s t d → AlikeOn (lost d x) → lost d x ≡ lost' d x) → ((x : Node) → Alike s t (parent p) → AlikeOn (next x) → next x ≡ next' x)
+      → AlikeOn (walk_or s caller lost code p next) → walk_or s caller lost code p next ≡ walk_or t caller lost' code p next'
+  walk_or_same caller lost lost' code p next next' same_lost same h =
+      let reads : (o : Path) → Among o (read_on s caller p) → Alike s t o = λ o k. h o (read_touched o (read_on s caller p) (ended (λ d. lost d (node_at s d)) code (next (node_at s (parent p))) (way_of s caller p)) k) in
+      let way = way_same caller [] (parent p) (reads [] (inl refl)) (λ o k. reads o (inr k)) in
+      let then = ended_same (λ d. lost d (node_at s d)) (λ d. lost' d (node_at t d)) code (next (node_at s (parent p))) (next' (node_at t (parent p))) (read_on s caller p) (parent p) reads
+          (λ d alike k. same_lost d (node_at s d) alike k ∙ ap (lost' d) (node_same d alike)) (λ alike k. same (node_at s (parent p)) alike k ∙ ap next' (node_same (parent p) alike))
+          (way_of s caller p) (base_read s caller [] (parent p))
+          (λ o k. h o (then_touched o (read_on s caller p) (ended (λ d. lost d (node_at s d)) code (next (node_at s (parent p))) (way_of s caller p)) k)) in
+      ap (reading (read_on s caller p)) then
+      ∙ ap (λ (l : List Path). reading ([] ∷ l) (ended (λ d. lost' d (node_at t d)) code (next' (node_at t (parent p))) (way_of s caller p))) way.1
+      ∙ ap (λ w. reading (read_on t caller p) (ended (λ d. lost' d (node_at t d)) code (next' (node_at t (parent p))) w)) way.0
 
   -- the walk to the parent of a path
-  pub walk_same : (caller : Caller) (code : Code) (p : Path) (a b : Outcome) → (Alike s t (parent p) → AlikeOn a → a ≡ b)
-      → AlikeOn (walk s caller code p a) → walk s caller code p a ≡ walk t caller code p b
-  walk_same caller code p a b same =
-      go_on ([] ∷ []) _ _ (λ root. way_same caller (missing_below code) (missing_below code) code [] (parent p) a b (root [] (inl refl)) (λ d k l. refl) same)
+  pub walk_same : (caller : Caller) (code : Code) (p : Path) (next next' : Node → Outcome) → ((x : Node) → Alike s t (parent p) → AlikeOn (next x) → next x ≡ next' x)
+      → AlikeOn (walk s caller code p next) → walk s caller code p next ≡ walk t caller code p next'
+  walk_same caller code p next next' same = walk_or_same caller (λ d dir. missing_below code d) (λ d dir. missing_below code d) code p next next' (λ d x alike k. refl) same
 
   -- the way to a node, and the node
   pub found_same : (e : Entry) (p : Path) (f g : Node → Outcome) → ((x : Node) → Alike s t p → AlikeOn (f x) → f x ≡ g x)
       → AlikeOn (found s e p f) → found s e p f ≡ found t e p g
   found_same e p f g same =
-      walk_same (caller_of e) PathNotFound p _ _ (λ up. noted_same p (refused (missing_code p PathNotFound)) (refused (missing_code p PathNotFound)) f g (shown_from_parent p up) (λ k. refl) (λ x alike is. same x alike))
+      walk_same (caller_of e) PathNotFound p (λ dir. noted (at s p) p (refused (missing_code p PathNotFound)) f) (λ dir. noted (at t p) p (refused (missing_code p PathNotFound)) g) (λ dir up. noted_same p (refused (missing_code p PathNotFound)) (refused (missing_code p PathNotFound)) f g (shown_from_parent p up) (λ k. refl) (λ x alike is. same x alike))
 
   -- the children of a path that is alike
   pub children_same : (d : Path) → Alike s t d → keys_where s (is_child d) ≡ keys_where t (is_child d)
@@ -175,9 +197,6 @@ module _ (s t : Tree) (laid_s : IsLaid s) (laid_t : IsLaid t) where
       keys_same s t (is_prefix p) (λ q e.
       let rest = behind_front p q e in
       rw (rest.1) (shown_down p rest.0 shown (λ o more n f front there. alike o (among_keys s (is_prefix p) o there front))))
-
-  pub node_same : (p : Path) → Alike s t p → node_at s p ≡ node_at t p
-  node_same p alike = ap (λ (o : Option Node). unwrap_or o blank) alike.node
 
   -- questions that are the same on both, at paths that are alike
   pub first_refusal_same : (asks asks' : Path → Node → Option Reply) (ps : List Path) → ((q : Path) → Among q ps → Alike s t q × ((x : Node) → asks q x ≡ asks' q x))

@@ -2,12 +2,13 @@
 use Rattle.std.proofs.Common.{◌≡◌, inl, inr, ℕ, Bool, true, false, not, ◌&&◌, List, [], ◌∷◌, ◌++◌, length, drop, map, take, Option, Some, None, is_some, Result, Ok, Err, refl, sym, subst}
 use Rattle.acl_text.specs.declared.acl.AclPair.{AclPair}
 use Rattle.acl_text.specs.declared.acl.AclFault.{AclFault}
-use Rattle.file_data.specs.FileRecord.{stage_answer, flush_answer}
+use Rattle.file_data.specs.FileRecord.{stage_answer, flush_answer, append_flush_answer}
 use Rattle.head_text.specs.declared.range.Range.{Range}
 use Rattle.lease_state.specs.declared.lease.Lease.{Lease}
 use Rattle.lease_state.specs.declared.lease.LeaseAction.{LeaseAction}
 use Rattle.lease_state.specs.declared.lease.LeaseFault.{LeaseFault}
 use Rattle.lease_state.specs.LeaseTable.{lease_act}
+use Rattle.lease_state.specs.LeaseAppends.{lease_act_append}
 use Rattle.path_text.specs.Paths.{is_prefix}
 use Rattle.namespace_model.specs.declared.code.Code.{Code}
 use Rattle.namespace_model.specs.declared.code.Code.TheVariants as code
@@ -19,7 +20,7 @@ use Rattle.namespace_model.specs.Nodes.{Node, is_directory, kind_of, has_kind, b
 use Rattle.namespace_model.specs.Trees.{Path, Tree, at, parent, is_bare, is_child, is_below, keys_where, subtree, IsLaid}
 use Rattle.namespace_model.specs.Effects.{Put}
 use Rattle.namespace_model.specs.Outcomes.{Outcome, touched, refused, unless, without_repeats}
-use Rattle.namespace_model.specs.Refusals.{caller_of, is_no_superuser, lacks, is_guarded, is_unmet, is_unmet_look, is_unmet_without, lease_refuses, is_taken, refuse_if, first_refusal, may_not_set_access, may_not_set_owner, may_not_set_group}
+use Rattle.namespace_model.specs.Refusals.{caller_of, is_no_superuser, lacks, is_guarded, is_unmet, is_unmet_look, is_unmet_without, lease_refuses, exists_already, refuse_if, first_refusal, may_not_set_access, may_not_set_owner, may_not_set_group}
 use Rattle.namespace_model.specs.Pages.{above, on_the_way}
 use Rattle.namespace_model.specs.Walks.{missing_code}
 use Rattle.namespace_model.specs.Locality.{Among, IsClosed}
@@ -29,15 +30,16 @@ use Rattle.namespace_model.specs.SetFilesystem.{set_filesystem, filesystem_set}
 use Rattle.namespace_model.specs.DeleteFilesystem.{delete_filesystem, filesystem_gone}
 use Rattle.namespace_model.specs.ListFilesystems.{list_filesystems, filesystems, begins_with}
 use Rattle.namespace_model.specs.ListPaths.{list_paths, list_node, list_page, paged, listed, is_closed}
-use Rattle.namespace_model.specs.Create.{Making, create, create_from, create_in, create_under, create_over, create_new, made_below, new_nodes, new_directory}
+use Rattle.namespace_model.specs.Create.{Making, create, create_from, create_in, create_over, create_new, made_below, new_nodes, new_directory}
 use Rattle.namespace_model.specs.Delete.{delete, delete_in, delete_node, cleared, gone, not_clearable}
 use Rattle.namespace_model.specs.Rename.{Moving, rename, rename_out, rename_node, rename_into, rename_over, rename_new, fitted, shifted, grows, some_too_long}
 use Rattle.namespace_model.specs.ReadFile.{read_file, read_node, bytes_read}
 use Rattle.namespace_model.specs.GetProperties.{get_properties, properties_shown}
 use Rattle.namespace_model.specs.GetAccess.{get_access, access_shown}
 use Rattle.namespace_model.specs.CheckAccess.{check_access}
-use Rattle.namespace_model.specs.Append.{append, appended, data_of, refused_staging}
-use Rattle.namespace_model.specs.Flush.{flush, flushed_to, refused_flush}
+use Rattle.namespace_model.specs.Append.{Appending, append, append_data, appended, refused_flush_too, under_lease}
+use Rattle.namespace_model.specs.Contents.{data_of, refused_staging, refused_flush}
+use Rattle.namespace_model.specs.Flush.{flush, flushed_to}
 use Rattle.namespace_model.specs.SetProperties.{set_properties, properties_set}
 use Rattle.namespace_model.specs.SetAccess.{Setting, set_access, access_put, pair_set, has_default}
 use Rattle.namespace_model.specs.SetAccessRecursive.{set_access_recursive, batch_below, batch_page, batch_of, batched}
@@ -48,7 +50,7 @@ use Rattle.namespace_model.proofs.Prefixes.{both, parent_of_child}
 use Rattle.namespace_model.proofs.Alikeness.{among_left, among_right, among_either}
 use Rattle.namespace_model.proofs.PageOrder.{keys_ascend, among_take}
 use Rattle.namespace_model.proofs.PageLooks.{over_test, above_keys, below_is_listing, at_or_below_is_listing}
-use Rattle.namespace_model.proofs.ClosedSteps.{Closed, Rooted, Also, Unseen, rooted_append, seen_rooted, one_rooted, known_rooted, account_rooted, answered_closed, refused_closed, reading_closed, unless_closed, noted_closed, within_closed, edited_closed, way_closed, walk_closed, found_closed, subtree_rooted, rooted_up, once_among}
+use Rattle.namespace_model.proofs.ClosedSteps.{Closed, Rooted, Also, Unseen, rooted_append, seen_rooted, one_rooted, known_rooted, account_rooted, answered_closed, refused_closed, reading_closed, unless_closed, noted_closed, edited_closed, walk_or_closed, walk_closed, found_closed, subtree_rooted, rooted_up, once_among}
 use Rattle.namespace_model.proofs.ClosedPages.{among_above, children_rooted, take_is_front, take_ascends, front_of_front, IsFront, batch_paths, on_the_way_rooted, page_rooted, front_rooted, batch_is_front}
 
 -- a step before which nothing was seen
@@ -146,14 +148,19 @@ check_access_closed e p want = closed_whole (λ t. check_access t e p want) (λ 
     unless_closed S (is_unmet_look e x) _
     (unless_closed S (lacks (caller_of e) want p x) _ (answered_closed _ _))))
 
-pub append_closed : (e : Entry) (p : Path) (position : ℕ) → IsClosed (λ t. append t e p position)
+under_lease_closed : (S : Path → Type 0) (answer : Result Lease LeaseFault) (next : Lease → Outcome) → ((after : Lease) → Closed S (next after)) → Closed S (under_lease answer next)
+under_lease_closed S (Err f) next h = answered_closed S _
+under_lease_closed S (Ok after) next h = h after
+
+pub append_closed : (e : Entry) (p : Path) (a : Appending) → IsClosed (λ t. append t e p a)
 unfolding append
-append_closed e p position = closed_whole (λ t. append t e p position) (λ t laid. found_closed Unseen t e p _ (λ S keeps here x.
+append_closed e p a = closed_whole (λ t. append t e p a) (λ t laid. found_closed Unseen t e p _ (λ S keeps here x.
     unless_closed S (lacks (caller_of e) 6 p x) _
     (unless_closed S (refuse_if (is_directory x) code.ResourceTypeMismatch) _
-    (unless_closed S (lease_refuses e e.request.lease x) _
-    (unless_closed S (refused_staging (stage_answer (data_of x.content) position e.request.body)) (appended e p position x)
-    (edited_closed S p _ _ here))))))
+    (under_lease_closed S (lease_act_append x.lease a.action e.request.lease e.moment) (append_data e p a x) (λ after.
+    unless_closed S (refused_staging (stage_answer (data_of x.content) a.position e.request.body)) _
+    (unless_closed S (refused_flush_too a.flush (append_flush_answer (data_of x.content) a.position e.request.body)) (appended e p a x after)
+    (edited_closed S p _ _ here)))))))
 
 pub flush_closed : (e : Entry) (p : Path) (position : ℕ) (retain : Bool) → IsClosed (λ t. flush t e p position retain)
 unfolding flush
@@ -224,7 +231,7 @@ module _ (t : Tree) (e : Entry) (m : Making) where
   create_over_closed : (S : Path → Type 0) (dir y : Node) → S (parent m.path) → Closed S (create_over t e m dir y)
   create_over_closed S dir y s =
       unless_closed S (is_guarded (caller_of e) dir m.path y) _
-      (unless_closed S (is_taken e) _
+      (unless_closed S (exists_already e) _
       (unless_closed S (is_unmet e y) _
       (unless_closed S (refuse_if (not (has_kind m.kind y)) code.ResourceTypeMismatch) _
       (unless_closed S (refuse_if (is_directory y && not (is_bare t m.path)) code.DirectoryNotEmpty) (made_below e m (parent m.path) dir (m.path ∷ []))
@@ -236,19 +243,16 @@ module _ (t : Tree) (e : Entry) (m : Making) where
       (noted_closed S (at t m.path) m.path (create_new e m (parent m.path) dir) (create_over t e m dir) s (create_new_closed S (parent m.path) dir s)
       (λ y. create_over_closed (Also S (m.path ∷ [])) dir y (inl s)))
 
-  create_from_closed : (S : Path → Type 0) (d : Path) → S d → Closed S (create_from t e m d)
-  create_from_closed S [] s = refused_closed S code.FilesystemNotFound
-  create_from_closed S (fs ∷ names) s =
-      within_closed S (at t (fs ∷ names)) (refused code.PathNotFound) (create_under e m (fs ∷ names)) (refused_closed S code.PathNotFound) (λ x.
-      unless_closed S (lacks (caller_of e) 3 (fs ∷ names) x) (create_new e m (fs ∷ names) x) (create_new_closed S (fs ∷ names) x s))
+  create_from_closed : (S : Path → Type 0) (d : Path) (x : Node) → S d → Closed S (create_from e m d x)
+  create_from_closed S [] x s = refused_closed S code.FilesystemNotFound
+  create_from_closed S (fs ∷ names) x s = unless_closed S (lacks (caller_of e) 3 (fs ∷ names) x) (create_new e m (fs ∷ names) x) (create_new_closed S (fs ∷ names) x s)
 
 pub create_closed : (e : Entry) (m : Making) → IsClosed (λ t. create t e m)
 unfolding create
 create_closed e m = closed_whole (λ t. create t e m) (λ t laid.
-    reading_closed Unseen ([] ∷ []) _ (account_rooted Unseen)
-    (way_closed (Also Unseen ([] ∷ [])) t (caller_of e) (create_from t e m) code.ResourceTypeMismatch [] (parent m.path) _ (inr (inl refl))
-    (λ S keeps d s. create_from_closed t e m S d s)
-    (λ S keeps s. within_closed S (at t (parent m.path)) (refused code.PathNotFound) (create_in t e m) (refused_closed S code.PathNotFound) (λ dir. create_in_closed t e m S dir s))))
+    walk_or_closed Unseen t (caller_of e) (create_from e m) code.ResourceTypeMismatch m.path (create_in t e m)
+    (λ S keeps d s x. create_from_closed t e m S d x s)
+    (λ S keeps s dir. create_in_closed t e m S dir s))
 
 -- ---- delete
 
@@ -277,11 +281,10 @@ module _ (t : Tree) (laid : IsLaid t) (e : Entry) (p : Path) where
 pub delete_closed : (e : Entry) (p : Path) (recursive : Bool) → IsClosed (λ t. delete t e p recursive)
 unfolding delete
 delete_closed e p recursive = closed_whole (λ t. delete t e p recursive) (λ t laid.
-    walk_closed Unseen t (caller_of e) code.PathNotFound p _ (λ S keeps s.
-    within_closed S (at t (parent p)) (refused code.PathNotFound) (delete_in t e p recursive) (refused_closed S code.PathNotFound) (λ dir.
+    walk_closed Unseen t (caller_of e) code.PathNotFound p (delete_in t e p recursive) (λ S keeps s dir.
     unless_closed S (lacks (caller_of e) 3 (parent p) dir) _
     (noted_closed S (at t p) p (refused (missing_code p code.PathNotFound)) (delete_node t e p recursive dir) s (refused_closed S (missing_code p code.PathNotFound)) (λ x.
-    delete_node_closed t laid e p (Also S (p ∷ [])) recursive dir x (inl s))))))
+    delete_node_closed t laid e p (Also S (p ∷ [])) recursive dir x (inl s)))))
 
 -- ---- rename
 
@@ -306,7 +309,7 @@ module _ (t : Tree) (laid : IsLaid t) (e : Entry) (m : Moving) where
   rename_over_closed : (S : Path → Type 0) (x dir y : Node) → S (parent m.source) → S (parent m.path) → S m.source → S m.path → Closed S (rename_over t e m x dir y)
   rename_over_closed S x dir y out into here over =
       unless_closed S (is_guarded (caller_of e) dir m.path y) _
-      (unless_closed S (is_taken e) _
+      (unless_closed S (exists_already e) _
       (unless_closed S (is_unmet e y) _
       (unless_closed S (lease_refuses e e.request.source_lease x) _
       (unless_closed S (refuse_if (not (has_kind (kind_of x) y)) code.ResourceTypeMismatch) _
@@ -328,18 +331,16 @@ module _ (t : Tree) (laid : IsLaid t) (e : Entry) (m : Moving) where
   rename_node_closed : (S : Path → Type 0) (dir x : Node) → S (parent m.source) → S m.source → Closed S (rename_node t e m dir x)
   rename_node_closed S dir x out here =
       unless_closed S (is_guarded (caller_of e) dir m.source x) _
-      (walk_closed S t (caller_of e) code.RenameDestinationParentPathNotFound m.path _ (λ R keeps into.
-      within_closed R (at t (parent m.path)) (refused code.RenameDestinationParentPathNotFound) (rename_into t e m x) (refused_closed R code.RenameDestinationParentPathNotFound) (λ dir.
-      rename_into_closed R x dir (keeps (parent m.source) out) into (keeps m.source here))))
+      (walk_closed S t (caller_of e) code.RenameDestinationParentPathNotFound m.path (rename_into t e m x) (λ R keeps into dir.
+      rename_into_closed R x dir (keeps (parent m.source) out) into (keeps m.source here)))
 
 pub rename_closed : (e : Entry) (m : Moving) → IsClosed (λ t. rename t e m)
 unfolding rename
 rename_closed e m = closed_whole (λ t. rename t e m) (λ t laid.
-    walk_closed Unseen t (caller_of e) code.SourcePathNotFound m.source _ (λ S keeps s.
-    within_closed S (at t (parent m.source)) (refused code.SourcePathNotFound) (rename_out t e m) (refused_closed S code.SourcePathNotFound) (λ dir.
+    walk_closed Unseen t (caller_of e) code.SourcePathNotFound m.source (rename_out t e m) (λ S keeps s dir.
     unless_closed S (lacks (caller_of e) 3 (parent m.source) dir) _
     (noted_closed S (at t m.source) m.source (refused (missing_code m.source code.SourcePathNotFound)) (rename_node t e m dir) s (refused_closed S (missing_code m.source code.SourcePathNotFound)) (λ x.
-    rename_node_closed t laid e m (Also S (m.source ∷ [])) dir x (inl s) (inr (inl refl)))))))
+    rename_node_closed t laid e m (Also S (m.source ∷ [])) dir x (inl s) (inr (inl refl))))))
 
 -- ---- pages
 
@@ -399,7 +400,8 @@ acts_closed e (op.Read path range) = read_file_closed e path range
 acts_closed e (op.GetProperties path status) = get_properties_closed e path status
 acts_closed e (op.GetAccess path) = get_access_closed e path
 acts_closed e (op.CheckAccess path want) = check_access_closed e path want
-acts_closed e (op.Append path position) = append_closed e path position
+acts_closed e (op.Append path position flush retain action) =
+    append_closed e path (record { position = position; flush = flush; retain = retain; action = action })
 acts_closed e (op.Flush path position retain) = flush_closed e path position retain
 acts_closed e (op.SetProperties path props) = set_properties_closed e path props
 acts_closed e (op.SetAccess path owner group permissions acl) =

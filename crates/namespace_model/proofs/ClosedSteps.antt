@@ -1,21 +1,24 @@
 -- What is above a touched path is touched too: the words of a step one by one.
-use Rattle.std.proofs.Common.{◌≡◌, ◌⊎◌, inl, inr, ◌↔◌, ℕ, Bool, true, false, not, List, [], ◌∷◌, ◌++◌, Option, Some, None, is_some, refl, ap, sym, subst, ◌∙◌, append_assoc}
+use Rattle.std.proofs.Common.{◌≡◌, ◌⊎◌, inl, inr, ◌↔◌, ℕ, Bool, true, false, cond, not, List, [], ◌∷◌, ◌++◌, Option, Some, None, is_some, Result, Ok, Err, refl, ap, sym, subst, ◌∙◌, append_assoc}
 use Rattle.std.proofs.lemmas.List.{append-nil}
 use Rattle.std.specs.Ordering.{eq_by_cmp}
 use Rattle.path_text.specs.Paths.{path_cmp, is_prefix}
 use Rattle.namespace_model.specs.declared.caller.Caller.{Caller}
 use Rattle.namespace_model.specs.declared.code.Code.{Code}
 use Rattle.namespace_model.specs.declared.code.Code.TheVariants.{PathNotFound, FilesystemNotFound}
+use Rattle.namespace_model.specs.declared.denied.Refusal.{Refusal}
 use Rattle.namespace_model.specs.declared.reply.Reply.{Reply}
 use Rattle.namespace_model.specs.declared.request.Entry.{Entry}
 use Rattle.namespace_model.specs.Nodes.{Node, is_directory}
-use Rattle.namespace_model.specs.Trees.{Path, Tree, at, parent, subtree, IsLaid, IsDirectory}
+use Rattle.namespace_model.specs.Trees.{Path, Tree, at, node_at, parent, subtree, IsLaid, IsDirectory}
 use Rattle.namespace_model.specs.Effects.{Put}
-use Rattle.namespace_model.specs.Refusals.{lacks, caller_of}
-use Rattle.namespace_model.specs.Outcomes.{Outcome, touched, reading, answered, refused, unless, noted, within, edited, once}
-use Rattle.namespace_model.specs.Walks.{way, walk, entered, passed, missing_below, missing_code}
+use Rattle.namespace_model.specs.Refusals.{caller_of}
+use Rattle.namespace_model.specs.Outcomes.{Outcome, touched, reading, answered, refused, unless, noted, edited, once}
+use Rattle.namespace_model.specs.Walks.{walk_or, walk, ended, missing_below, missing_code}
+use Rattle.namespace_model.specs.Ways.{Way, reached, missing, blocked, closed, may_enter, behind, seen, read_from, way_of, read_on}
 use Rattle.namespace_model.specs.Looks.{found}
 use Rattle.namespace_model.specs.Locality.{Among}
+use Rattle.namespace_model.proofs.WayLemmas.{IsReadBy, base_read}
 use Rattle.namespace_model.proofs.Lookups.{keys_among, among_keys, path_tells}
 use Rattle.namespace_model.proofs.Prefixes.{parent_name, parent_of_child, behind_front, front_of_append}
 use Rattle.namespace_model.proofs.Alikeness.{among_left, among_right, among_either}
@@ -106,54 +109,61 @@ pub noted_closed : (S : Path → Type 0) (u : Option Node) (p : Path) (none : Ou
 noted_closed S None p none f above h then = h
 noted_closed S (Some x) p none f above h then = reading_closed S (p ∷ []) (f x) (one_rooted S p above) (then x)
 
-pub within_closed : (S : Path → Type 0) (u : Option Node) (none : Outcome) (f : Node → Outcome) → Closed S none → ((x : Node) → Closed S (f x)) → Closed S (within u none f)
-within_closed S None none f h then = h
-within_closed S (Some x) none f h then = then x
-
 pub edited_closed : (S : Path → Type 0) (p : Path) (put : Put) (reply : Reply) → S p → Closed S (edited p put reply)
 edited_closed S p put reply s = record { hangs = known_rooted S p s }
 
-passed_closed : (S : Path → Type 0) (caller : Caller) (blocked : Code) (p : Path) (x : Node) (o : Outcome) (d : Bool) → is_directory x ≡ d → Closed S o → Closed S (passed caller blocked p x o)
-passed_closed S caller blocked p x o true e h = rw (e) (unless_closed S (lacks caller 1 p x) o h)
-passed_closed S caller blocked p x o false e h = rw (e) (refused_closed S blocked)
+-- a node of the way, and what is read behind it
+met_rooted : (S : Path → Type 0) (caller : Caller) (p : Path) (u : Option Node) (rest : List Path) → S (parent p) → Rooted (Also S (p ∷ [])) rest → Rooted S (seen caller p u rest)
+met_rooted S caller p None rest above then = λ q k. absurd k
+met_rooted S caller p (Some x) rest above then = rooted_append S (p ∷ []) (cond (is_directory x) (behind (may_enter caller x) rest) []) (one_rooted S p above) (by_kind (is_directory x))
+  where
+    by_check : (c : Result Unit Refusal) → Rooted (Also S (p ∷ [])) (behind c rest)
+    by_check (Ok allowed) = then
+    by_check (Err r) = λ q k. absurd k
 
-entered_closed : (S : Path → Type 0) (caller : Caller) (m : Outcome) (blocked : Code) (u : Option Node) (p : Path) (o : Outcome) → S (parent p) → Closed S m
-    → Closed (Also S (p ∷ [])) o → Closed S (entered caller m blocked u p o)
-entered_closed S caller m blocked None p o above missing then = missing
-entered_closed S caller m blocked (Some x) p o above missing then =
-    reading_closed S (p ∷ []) (passed caller blocked p x o) (one_rooted S p above) (passed_closed (Also S (p ∷ [])) caller blocked p x o (is_directory x) refl then)
+    by_kind : (d : Bool) → Rooted (Also S (p ∷ [])) (cond d (behind (may_enter caller x) rest) [])
+    by_kind true = by_check (may_enter caller x)
+    by_kind false = λ q k. absurd k
 
--- the way from a directory that was seen; what comes then has seen its last directory
-pub way_closed : (S : Path → Type 0) (t : Tree) (caller : Caller) (m : Path → Outcome) (blocked : Code) (done names : Path) (o : Outcome) → S done
-    → ((R : Path → Type 0) → Keeps S R → (d : Path) → R d → Closed R (m d)) → ((R : Path → Type 0) → Keeps S R → R (done ++ names) → Closed R o)
-    → Closed S (way t caller m blocked done names o)
-way_closed S t caller m blocked done [] o s missing then = then S (λ q h. h) (subst S (sym (append-nil done)) s)
-way_closed S t caller m blocked done (n ∷ names) o s missing then =
-    entered_closed S caller (m done) blocked (at t (done ++ n ∷ [])) (done ++ n ∷ []) (way t caller m blocked (done ++ n ∷ []) names o)
-    (subst S (sym (parent_of_child done n)) s)
-    (missing S (λ q h. h) done s)
-    (way_closed (Also S ((done ++ n ∷ []) ∷ [])) t caller m blocked (done ++ n ∷ []) names o (inr (inl refl))
-    (λ R keeps d. missing R (λ q h. keeps q (inl h)) d)
-    (λ R keeps last. then R (λ q h. keeps q (inl h)) (subst R (append_assoc done (n ∷ []) names) last)))
+-- what is read on the way from a directory that was seen
+way_rooted : (S : Path → Type 0) (t : Tree) (caller : Caller) (done names : Path) → S done → Rooted S (read_from t caller done names)
+way_rooted S t caller done [] s = λ q k. absurd k
+way_rooted S t caller done (n ∷ names) s =
+    met_rooted S caller (done ++ n ∷ []) (at t (done ++ n ∷ [])) (read_from t caller (done ++ n ∷ []) names) (subst S (sym (parent_of_child done n)) s)
+    (way_rooted (Also S ((done ++ n ∷ []) ∷ [])) t caller (done ++ n ∷ []) names (inr (inl refl)))
+
+ended_closed : (R : Path → Type 0) (ps : List Path) (lost : Path → Outcome) (code : Code) (whole : Path) (o : Outcome) → ((q : Path) → Among q ps → R q) → ((d : Path) → R d → Closed R (lost d)) → (R whole → Closed R o)
+    → (w : Way) → IsReadBy ps whole w → Closed R (ended lost code o w)
+ended_closed R ps lost code whole o read gone then reached base = then (read whole base)
+ended_closed R ps lost code whole o read gone then (missing d) base = gone d (read d base)
+ended_closed R ps lost code whole o read gone then (blocked p) base = refused_closed R code
+ended_closed R ps lost code whole o read gone then (closed p r) base = answered_closed R _
 
 missing_closed : (S : Path → Type 0) (code : Code) (d : Path) → Closed S (missing_below code d)
 missing_closed S code [] = refused_closed S FilesystemNotFound
 missing_closed S code (fs ∷ names) = refused_closed S code
 
+-- a walk; what comes then has seen the last directory
+pub walk_or_closed : (S : Path → Type 0) (t : Tree) (caller : Caller) (lost : Path → Node → Outcome) (code : Code) (p : Path) (next : Node → Outcome)
+    → ((R : Path → Type 0) → Keeps S R → (d : Path) → R d → (x : Node) → Closed R (lost d x)) → ((R : Path → Type 0) → Keeps S R → R (parent p) → (x : Node) → Closed R (next x))
+    → Closed S (walk_or t caller lost code p next)
+walk_or_closed S t caller lost code p next gone then =
+    reading_closed S (read_on t caller p) (ended (λ d. lost d (node_at t d)) code (next (node_at t (parent p))) (way_of t caller p))
+    (rooted_append S ([] ∷ []) (read_from t caller [] (parent p)) (account_rooted S) (way_rooted (Also S ([] ∷ [])) t caller [] (parent p) (inr (inl refl))))
+    (ended_closed (Also S (read_on t caller p)) (read_on t caller p) (λ d. lost d (node_at t d)) code (parent p) (next (node_at t (parent p))) (λ q k. inr k)
+    (λ d s. gone (Also S (read_on t caller p)) (λ q h. inl h) d s (node_at t d)) (λ s. then (Also S (read_on t caller p)) (λ q h. inl h) s (node_at t (parent p)))
+    (way_of t caller p) (base_read t caller [] (parent p)))
+
 -- the walk to the parent of a path
-pub walk_closed : (S : Path → Type 0) (t : Tree) (caller : Caller) (code : Code) (p : Path) (o : Outcome)
-    → ((R : Path → Type 0) → Keeps S R → R (parent p) → Closed R o) → Closed S (walk t caller code p o)
-walk_closed S t caller code p o then =
-    reading_closed S ([] ∷ []) (way t caller (missing_below code) code [] (parent p) o) (account_rooted S)
-    (way_closed (Also S ([] ∷ [])) t caller (missing_below code) code [] (parent p) o (inr (inl refl))
-    (λ R keeps d s. missing_closed R code d)
-    (λ R keeps last. then R (λ q h. keeps q (inl h)) last))
+pub walk_closed : (S : Path → Type 0) (t : Tree) (caller : Caller) (code : Code) (p : Path) (next : Node → Outcome)
+    → ((R : Path → Type 0) → Keeps S R → R (parent p) → (x : Node) → Closed R (next x)) → Closed S (walk t caller code p next)
+walk_closed S t caller code p next then = walk_or_closed S t caller (λ d dir. missing_below code d) code p next (λ R keeps d s x. missing_closed R code d) then
 
 -- the way to a node, and the node
 pub found_closed : (S : Path → Type 0) (t : Tree) (e : Entry) (p : Path) (f : Node → Outcome)
     → ((R : Path → Type 0) → Keeps S R → R p → (x : Node) → Closed R (f x)) → Closed S (found t e p f)
 found_closed S t e p f then =
-    walk_closed S t (caller_of e) PathNotFound p (noted (at t p) p (refused (missing_code p PathNotFound)) f) (λ R keeps above.
+    walk_closed S t (caller_of e) PathNotFound p (λ dir. noted (at t p) p (refused (missing_code p PathNotFound)) f) (λ R keeps above dir.
     noted_closed R (at t p) p (refused (missing_code p PathNotFound)) f above (refused_closed R (missing_code p PathNotFound))
     (λ x. then (Also R (p ∷ [])) (λ q h. inl (keeps q h)) (inr (inl refl)) x))
 

@@ -17,7 +17,7 @@ use Rattle.namespace_model.specs.declared.op.Op.TheVariants as op
 use Rattle.namespace_model.specs.declared.reply.Reply.{Reply}
 use Rattle.namespace_model.specs.declared.request.Entry.{Entry}
 use Rattle.namespace_model.specs.Nodes.{Node}
-use Rattle.namespace_model.specs.Trees.{Path, Tree, at}
+use Rattle.namespace_model.specs.Trees.{Path, Tree, at, parent, IsDirectoryAt}
 use Rattle.namespace_model.specs.Access.{access_check, judged, Case, decided, cases, bits_of, masked_by, is_within, is_superuser, sticky_lets, may_set_access, may_set_owner, may_set_group}
 use Rattle.namespace_model.specs.Replies.{denial, not_modified}
 use Rattle.namespace_model.specs.Outcomes.{Outcome, answered, refused}
@@ -25,11 +25,13 @@ use Rattle.namespace_model.specs.Refusals.{caller_of, deny_unless, denied_by, la
 use Rattle.namespace_model.specs.Denials.{IsCheckDenial, HasNoBits, IsDenialBy, IsDenial, DeniesRightly, NamesDenials, asked_owner, asked_group}
 use Rattle.namespace_model.specs.Sound.{IsSound, IsOperation, is_of_decoding}
 use Rattle.namespace_model.specs.Step.{acts, outcome, closing}
+use Rattle.namespace_model.proofs.WayLemmas.{IsShut}
+use Rattle.namespace_model.proofs.SuccessReplies.{plain_success}
 use Rattle.namespace_model.proofs.DenialSteps.{Asked, IsLaw, IsPlain, acts_holds}
 
 -- ---- the rules of the check
 
-is_check_rule : Rule → Bool
+unfoldable pub is_check_rule : Rule → Bool
 is_check_rule rule.Owner = true
 is_check_rule rule.NamedUser = true
 is_check_rule rule.Other = true
@@ -40,7 +42,7 @@ is_check_rule rule.GroupOwner = false
 is_check_rule rule.SuperuserOnly = false
 
 -- where it denies, by one of the three rules of the check
-abbrev ByCheck : Result Unit Refusal → Type 0
+abbrev pub ByCheck : Result Unit Refusal → Type 0
 ByCheck (Ok allowed) = Unit {0}
 ByCheck (Err r) = is_check_rule r.rule ≡ true
 
@@ -56,34 +58,32 @@ abbrev AllByCheck : List Case → Type 0
 AllByCheck [] = Unit {0}
 AllByCheck (c ∷ cs) = ByCheck c.says × AllByCheck cs
 
-decided_by_check : (cs : List Case) → AllByCheck cs → ByCheck (decided cs)
-decided_by_check [] h = tt
-decided_by_check (c ∷ cs) h = if_by_check c.applies c.says (decided cs) h.0 (decided_by_check cs h.1)
+decided_by_check : (cs : List Case) (last : Result Unit Refusal) → AllByCheck cs → ByCheck last → ByCheck (decided cs last)
+decided_by_check [] last h k = k
+decided_by_check (c ∷ cs) last h k = if_by_check c.applies c.says (decided cs last) h.0 (decided_by_check cs last h.1 k)
 
-check_by_check : (acl : List (Who × ℕ)) (owner group : List ℕ) (caller : Caller) (want : ℕ) → ByCheck (access_check acl owner group caller want)
+pub check_by_check : (acl : List (Who × ℕ)) (owner group : List ℕ) (caller : Caller) (want : ℕ) → ByCheck (access_check acl owner group caller want)
 unfolding access_check is_check_rule
 check_by_check acl owner group caller want =
-    decided_by_check (cases acl owner group caller want) (
+    decided_by_check (cases acl owner group caller want) (judged rule.Other want (bits_of acl who.Other)) (
       tt,
       (
         judged_by_check rule.Owner want (bits_of acl who.Owner) refl,
-        (
-          judged_by_check rule.NamedUser want (masked_by acl (bits_of acl (who.User caller.id))) refl,
-          (tt, (judged_by_check rule.Other want (bits_of acl who.Other) refl, tt)),
-        ),
+        (judged_by_check rule.NamedUser want (masked_by acl (bits_of acl (who.User caller.id))) refl, (tt, tt)),
       ),
     )
+    (judged_by_check rule.Other want (bits_of acl who.Other) refl)
 
 -- ---- what a denial says is so
 
-deny_asked : (Q : Outcome → Type 0) (b : Bool) (r : Rule) (p : Path) → (b ≡ false → Q (answered (denial r p 0 0))) → Asked Q (deny_unless b r p)
+pub deny_asked : (Q : Outcome → Type 0) (b : Bool) (r : Rule) (p : Path) → (b ≡ false → Q (answered (denial r p 0 0))) → Asked Q (deny_unless b r p)
 deny_asked Q true r p h = record { asked = tt }
 deny_asked Q false r p h = record { asked = h refl }
 
-no_bits : (r : Rule) (p : Path) → HasNoBits (record { rule = r; at = p; want = 0; have = 0 })
+pub no_bits : (r : Rule) (p : Path) → HasNoBits (record { rule = r; at = p; want = 0; have = 0 })
 no_bits r p = record { want = refl; have = refl }
 
-module _ (t : Tree) (e : Entry) where
+module _ (t : Tree) (root : IsDirectoryAt t []) (e : Entry) where
   Rightly : Outcome → Type 0
   Rightly o = DeniesRightly t e o.reply
 
@@ -106,6 +106,12 @@ module _ (t : Tree) (e : Entry) where
     asked = by_rule r.rule (record { rule = r.rule; at = p; want = want; have = r.have }) h (record { node = x; there = is; deciding = says });
   }
 
+  shut_rightly : (whole p : Path) (r : Refusal) → IsShut t (caller_of e) whole p r → Rightly (answered (denial r.rule p 1 r.have))
+  unfolding Rightly
+  shut_rightly whole p r is =
+      by_rule r.rule (record { rule = r.rule; at = p; want = 1; have = r.have })
+      (subst ByCheck is.denies (check_by_check is.node.acl.access is.node.owner is.node.group (caller_of e) 1)) (record { node = is.node; there = is.there; deciding = is.denies })
+
   rights_rightly : (want : ℕ) (p : Path) (x : Node) → at t p ≡ Some x → Asked Rightly (lacks (caller_of e) want p x)
   rights_rightly want p x is =
       rights_by want p x is (access_check x.acl.access x.owner x.group (caller_of e) want) refl (check_by_check x.acl.access x.owner x.group (caller_of e) want)
@@ -126,23 +132,24 @@ module _ (t : Tree) (e : Entry) where
   unfolding Rightly
   rightly_law = record {
     reads = λ ps o h. h;
-    succeeds = λ o no_code no_denial other. subst (λ d. IfSome d (IsDenial t e)) (sym no_denial) tt;
+    succeeds = λ o success. subst (λ d. IfSome d (IsDenial t e)) (sym (plain_success t e o success).denied) tt;
     refuses = λ c plain. tt;
     unmodified = tt;
-    rights = rights_rightly;
-    sticky = λ dir p x is above. deny_asked Rightly (sticky_lets dir.sticky dir.owner x.owner (caller_of e)) rule.Sticky p (λ guarded.
-        record { node = x; directory = dir; there = is; above = above; guarded = guarded; bits = no_bits rule.Sticky p });
-    superuser = λ p. deny_asked Rightly (is_superuser (caller_of e)) rule.SuperuserOnly p (λ other. record { other = other; bits = no_bits rule.SuperuserOnly p });
-    access = λ p x is. deny_asked Rightly (may_set_access x.owner (caller_of e)) rule.AclOwner p (λ other. record { node = x; there = is; other = other; bits = no_bits rule.AclOwner p });
-    owner = owner_rightly;
-    group = group_rightly;
+    shut = λ to p r walks is. shut_rightly (parent to) p r is;
+    rights = λ want p x is wanted. rights_rightly want p x (is root);
+    sticky = λ dir p x is above guard. deny_asked Rightly (sticky_lets dir.sticky dir.owner x.owner (caller_of e)) rule.Sticky p (λ guarded.
+        record { node = x; directory = dir; there = is; above = above root; guarded = guarded; bits = no_bits rule.Sticky p });
+    superuser = λ p for. deny_asked Rightly (is_superuser (caller_of e)) rule.SuperuserOnly p (λ other. record { other = other; bits = no_bits rule.SuperuserOnly p });
+    access = λ p x is by. deny_asked Rightly (may_set_access x.owner (caller_of e)) rule.AclOwner p (λ other. record { node = x; there = is; other = other; bits = no_bits rule.AclOwner p });
+    owner = λ p x new is asks by. owner_rightly p x new is asks;
+    group = λ p x new is asks by. group_rightly p x new is asks;
   }
 
   acts_rightly : DeniesRightly t e (acts t e e.request.op).reply
   unfolding Rightly
   acts_rightly = acts_holds t e Rightly rightly_law e.request.op refl (λ c is. tt)
 
-closing_denied : (close : Bool) (reply : Reply) → (closing close reply).denied ≡ reply.denied
+pub closing_denied : (close : Bool) (reply : Reply) → (closing close reply).denied ≡ reply.denied
 closing_denied true reply = refl
 closing_denied false reply = refl
 
@@ -151,9 +158,9 @@ closing_status true reply = refl
 closing_status false reply = refl
 
 -- what a denial says is so on the tree before the step
-pub outcome_denies_rightly : (t : Tree) (e : Entry) → DeniesRightly t e (outcome t e).reply
+pub outcome_denies_rightly : (t : Tree) → IsDirectoryAt t [] → (e : Entry) → DeniesRightly t e (outcome t e).reply
 unfolding outcome
-outcome_denies_rightly t e = subst (λ d. IfSome d (IsDenial t e)) (sym (closing_denied e.request.close (acts t e e.request.op).reply)) (acts_rightly t e)
+outcome_denies_rightly t root e = subst (λ d. IfSome d (IsDenial t e)) (sym (closing_denied e.request.close (acts t e e.request.op).reply)) (acts_rightly t root e)
 
 -- ---- the status of a denial
 
@@ -191,15 +198,16 @@ named_law : (t : Tree) (e : Entry) → IsLaw t e Named
 unfolding Named
 named_law t e = record {
   reads = λ ps o h. h;
-  succeeds = λ o no_code no_denial other. plain_named o no_denial other;
+  succeeds = λ o success. let plain = plain_success t e o success in plain_named o plain.denied plain.status;
   refuses = refusal_named;
   unmodified = plain_named (answered not_modified) refl refl;
-  rights = λ want p x is. rights_named p want (access_check x.acl.access x.owner x.group (caller_of e) want);
-  sticky = λ dir p x is above. deny_named (sticky_lets dir.sticky dir.owner x.owner (caller_of e)) rule.Sticky p;
-  superuser = λ p. deny_named (is_superuser (caller_of e)) rule.SuperuserOnly p;
-  access = λ p x is. deny_named (may_set_access x.owner (caller_of e)) rule.AclOwner p;
-  owner = λ p x new is asks. owner_named (caller_of e) p x new;
-  group = λ p x new is asks. group_named (caller_of e) p x new;
+  shut = λ to p r walks is. denial_named r.rule p 1 r.have;
+  rights = λ want p x is wanted. rights_named p want (access_check x.acl.access x.owner x.group (caller_of e) want);
+  sticky = λ dir p x is above guard. deny_named (sticky_lets dir.sticky dir.owner x.owner (caller_of e)) rule.Sticky p;
+  superuser = λ p for. deny_named (is_superuser (caller_of e)) rule.SuperuserOnly p;
+  access = λ p x is by. deny_named (may_set_access x.owner (caller_of e)) rule.AclOwner p;
+  owner = λ p x new is asks by. owner_named (caller_of e) p x new;
+  group = λ p x new is asks by. group_named (caller_of e) p x new;
 }
 
 -- a code of decoding is no denial

@@ -9,27 +9,27 @@ use Rattle.namespace_model.specs.declared.request.Entry.{Entry}
 use Rattle.namespace_model.specs.Nodes.{Node, is_directory, kind_of, has_kind}
 use Rattle.namespace_model.specs.Trees.{Path, Tree, at, parent, is_child, subtree, children, IsLaid}
 use Rattle.namespace_model.specs.Outcomes.{refused, unless}
-use Rattle.namespace_model.specs.Refusals.{caller_of, is_no_superuser, lacks, is_guarded, is_unmet, is_unmet_without, lease_refuses, is_taken, refuse_if, first_refusal}
+use Rattle.namespace_model.specs.Refusals.{caller_of, is_no_superuser, lacks, is_guarded, is_unmet, is_unmet_without, lease_refuses, exists_already, refuse_if, first_refusal}
 use Rattle.namespace_model.specs.Walks.{missing_code}
 use Rattle.namespace_model.specs.Locality.{Among, Alike, IsLocal}
 use Rattle.namespace_model.specs.CreateFilesystem.{create_filesystem, filesystem_made}
 use Rattle.namespace_model.specs.GetFilesystem.{get_filesystem, filesystem_shown}
 use Rattle.namespace_model.specs.SetFilesystem.{set_filesystem, filesystem_set}
 use Rattle.namespace_model.specs.DeleteFilesystem.{delete_filesystem, filesystem_gone}
-use Rattle.namespace_model.specs.Create.{Making, create, create_from, create_in, create_under, create_over, create_new}
+use Rattle.namespace_model.specs.Create.{Making, create, create_from, create_in, create_over, create_new}
 use Rattle.namespace_model.specs.Delete.{delete, delete_in, delete_node, cleared, gone, not_clearable}
 use Rattle.namespace_model.specs.Rename.{Moving, rename, rename_out, rename_node, rename_into, rename_over, rename_new, fitted, shifted, grows, some_too_long}
 use Rattle.namespace_model.specs.ReadFile.{read_file}
 use Rattle.namespace_model.specs.GetProperties.{get_properties}
 use Rattle.namespace_model.specs.GetAccess.{get_access}
 use Rattle.namespace_model.specs.CheckAccess.{check_access}
-use Rattle.namespace_model.specs.Append.{append}
+use Rattle.namespace_model.specs.Append.{Appending, append}
 use Rattle.namespace_model.specs.Flush.{flush}
 use Rattle.namespace_model.specs.SetProperties.{set_properties}
 use Rattle.namespace_model.specs.SetAccess.{Setting, set_access}
 use Rattle.namespace_model.specs.LeaseNode.{act_on_lease}
 use Rattle.namespace_model.specs.Step.{root_of}
-use Rattle.namespace_model.proofs.Alikeness.{AlikeOn, go_on, unless_same, noted_same, within_same, shown_from_parent, way_same, walk_same, found_same, children_same, subtree_same, first_refusal_same, read_touched}
+use Rattle.namespace_model.proofs.Alikeness.{AlikeOn, go_on, unless_same, noted_same, shown_from_parent, walk_or_same, walk_same, found_same, children_same, subtree_same, first_refusal_same, read_touched}
 use Rattle.namespace_model.proofs.Lookups.{keys_among, among_keys}
 use Rattle.namespace_model.proofs.Prefixes.{behind_front, child_name, front_of_append}
 
@@ -88,9 +88,9 @@ pub check_access_local : (e : Entry) (p : Path) (want : ℕ) → IsLocal (λ t. 
 unfolding check_access
 check_access_local e p want s t laid_s laid_t = found_same s t laid_s laid_t e p _ _ (λ x alike h. refl)
 
-pub append_local : (e : Entry) (p : Path) (position : ℕ) → IsLocal (λ t. append t e p position)
+pub append_local : (e : Entry) (p : Path) (a : Appending) → IsLocal (λ t. append t e p a)
 unfolding append
-append_local e p position s t laid_s laid_t = found_same s t laid_s laid_t e p _ _ (λ x alike h. refl)
+append_local e p a s t laid_s laid_t = found_same s t laid_s laid_t e p _ _ (λ x alike h. refl)
 
 pub flush_local : (e : Entry) (p : Path) (position : ℕ) (retain : Bool) → IsLocal (λ t. flush t e p position retain)
 unfolding flush
@@ -120,17 +120,10 @@ module _ (s t : Tree) (laid_s : IsLaid s) (laid_t : IsLaid t) (e : Entry) (m : M
       (noted_same s t laid_s laid_t m.path (create_new e m (parent m.path) dir) _ (create_over s e m dir) (create_over t e m dir) (shown_from_parent s t laid_s laid_t m.path up) (λ h. refl)
       (λ y alike is h. create_over_same dir y alike))
 
-  create_from_same : (d : Path) → Alike s t d → AlikeOn s t laid_s laid_t (create_from s e m d) → create_from s e m d ≡ create_from t e m d
-  create_from_same [] alike h = refl
-  create_from_same (fs ∷ names) alike h =
-      within_same s t laid_s laid_t (fs ∷ names) (refused code.PathNotFound) _ (create_under e m (fs ∷ names)) (create_under e m (fs ∷ names)) alike (λ k. refl) (λ x k. refl) h
-
 pub create_local : (e : Entry) (m : Making) → IsLocal (λ t. create t e m)
 unfolding create
 create_local e m s t laid_s laid_t =
-    go_on s t laid_s laid_t ([] ∷ []) _ _ (λ root.
-    way_same s t laid_s laid_t (caller_of e) (create_from s e m) (create_from t e m) code.ResourceTypeMismatch [] (parent m.path) _ _ (root [] (inl refl)) (create_from_same s t laid_s laid_t e m)
-    (λ up. within_same s t laid_s laid_t (parent m.path) (refused code.PathNotFound) _ (create_in s e m) (create_in t e m) up (λ k. refl) (create_in_same s t laid_s laid_t e m up)))
+    walk_or_same s t laid_s laid_t (caller_of e) (create_from e m) (create_from e m) code.ResourceTypeMismatch m.path (create_in s e m) (create_in t e m) (λ d x alike h. refl) (λ dir up. create_in_same s t laid_s laid_t e m up dir)
 
 -- ---- delete
 
@@ -193,8 +186,7 @@ module _ (s t : Tree) (laid_s : IsLaid s) (laid_t : IsLaid t) where
 pub delete_local : (e : Entry) (p : Path) (recursive : Bool) → IsLocal (λ t. delete t e p recursive)
 unfolding delete
 delete_local e p recursive s t laid_s laid_t =
-    walk_same s t laid_s laid_t (caller_of e) code.PathNotFound p _ _ (λ up.
-    within_same s t laid_s laid_t (parent p) (refused code.PathNotFound) _ (delete_in s e p recursive) (delete_in t e p recursive) up (λ h. refl) (λ dir. delete_in_same s t laid_s laid_t e p recursive dir up))
+    walk_same s t laid_s laid_t (caller_of e) code.PathNotFound p (delete_in s e p recursive) (delete_in t e p recursive) (λ dir up. delete_in_same s t laid_s laid_t e p recursive dir up)
 
 -- ---- rename
 
@@ -214,7 +206,7 @@ module _ (s t : Tree) (laid_s : IsLaid s) (laid_t : IsLaid t) (e : Entry) (m : M
       → AlikeOn s t laid_s laid_t (rename_over s e m x dir y) → rename_over s e m x dir y ≡ rename_over t e m x dir y
   rename_over_same x dir y shown alike =
       unless_same s t laid_s laid_t (is_guarded (caller_of e) dir m.path y) _ _ _ refl
-      (unless_same s t laid_s laid_t (is_taken e) _ _ _ refl
+      (unless_same s t laid_s laid_t (exists_already e) _ _ _ refl
       (unless_same s t laid_s laid_t (is_unmet e y) _ _ _ refl
       (unless_same s t laid_s laid_t (lease_refuses e e.request.source_lease x) _ _ _ refl
       (unless_same s t laid_s laid_t (refuse_if (not (has_kind (kind_of x) y)) code.ResourceTypeMismatch) _ _ _ refl
@@ -239,8 +231,7 @@ module _ (s t : Tree) (laid_s : IsLaid s) (laid_t : IsLaid t) (e : Entry) (m : M
       → AlikeOn s t laid_s laid_t (rename_node s e m dir x) → rename_node s e m dir x ≡ rename_node t e m dir x
   rename_node_same dir x shown =
       unless_same s t laid_s laid_t (is_guarded (caller_of e) dir m.source x) _ _ _ refl
-      (walk_same s t laid_s laid_t (caller_of e) code.RenameDestinationParentPathNotFound m.path _ _ (λ up.
-      within_same s t laid_s laid_t (parent m.path) (refused code.RenameDestinationParentPathNotFound) _ (rename_into s e m x) (rename_into t e m x) up (λ h. refl) (λ into. rename_into_same x into shown up)))
+      (walk_same s t laid_s laid_t (caller_of e) code.RenameDestinationParentPathNotFound m.path (rename_into s e m x) (rename_into t e m x) (λ into up. rename_into_same x into shown up))
 
   rename_out_same : (dir : Node) → Alike s t (parent m.source)
       → AlikeOn s t laid_s laid_t (rename_out s e m dir) → rename_out s e m dir ≡ rename_out t e m dir
@@ -252,5 +243,4 @@ module _ (s t : Tree) (laid_s : IsLaid s) (laid_t : IsLaid t) (e : Entry) (m : M
 pub rename_local : (e : Entry) (m : Moving) → IsLocal (λ t. rename t e m)
 unfolding rename
 rename_local e m s t laid_s laid_t =
-    walk_same s t laid_s laid_t (caller_of e) code.SourcePathNotFound m.source _ _ (λ up.
-    within_same s t laid_s laid_t (parent m.source) (refused code.SourcePathNotFound) _ (rename_out s e m) (rename_out t e m) up (λ h. refl) (λ dir. rename_out_same s t laid_s laid_t e m dir up))
+    walk_same s t laid_s laid_t (caller_of e) code.SourcePathNotFound m.source (rename_out s e m) (rename_out t e m) (λ dir up. rename_out_same s t laid_s laid_t e m dir up)

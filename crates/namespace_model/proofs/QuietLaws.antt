@@ -8,6 +8,8 @@ use Rattle.namespace_model.specs.Outcomes.{Outcome, answered, reading, once}
 use Rattle.namespace_model.specs.Quiet.{IsQuiet}
 use Rattle.namespace_model.specs.Step.{acts, outcome, closing}
 use Rattle.namespace_model.proofs.DenialSteps.{Asked, IsLaw, acts_holds}
+use Rattle.namespace_model.proofs.Successes.{IsSuccess}
+use Rattle.namespace_model.proofs.SuccessReplies.{no_code}
 
 Quiet : Outcome → Type 0
 Quiet o = IsQuiet o
@@ -24,22 +26,23 @@ reading_quiet : (ps : List Path) (o : Outcome) → Quiet o → Quiet (reading ps
 unfolding Quiet
 reading_quiet ps o h refuses = record { written = (h refuses).written; fresh = (h refuses).fresh; effect = (h refuses).effect }
 
-success_quiet : (o : Outcome) → o.reply.code ≡ None → Quiet o
+success_quiet : (t : Tree) (e : Entry) (o : Outcome) → IsSuccess t e o → Quiet o
 unfolding Quiet
-success_quiet o no_code refuses = absurd (false≢true (sym (ap is_some no_code) ∙ refuses))
+success_quiet t e o success refuses = absurd (false≢true (sym (ap is_some (no_code t e o success)) ∙ refuses))
 
 quiet_law : (t : Tree) (e : Entry) → IsLaw t e Quiet
 quiet_law t e = record {
   reads = reading_quiet;
-  succeeds = λ o no_code no_denial other. success_quiet o no_code;
+  succeeds = success_quiet t e;
   refuses = λ c plain. answered_quiet _;
   unmodified = answered_quiet _;
-  rights = λ want p x is. asked_quiet _;
-  sticky = λ dir p x is above. asked_quiet _;
-  superuser = λ p. asked_quiet _;
-  access = λ p x is. asked_quiet _;
-  owner = λ p x new is asks. asked_quiet _;
-  group = λ p x new is asks. asked_quiet _;
+  shut = λ to p r walks is. answered_quiet _;
+  rights = λ want p x is wanted. asked_quiet _;
+  sticky = λ dir p x is above guarded. asked_quiet _;
+  superuser = λ p for. asked_quiet _;
+  access = λ p x is by. asked_quiet _;
+  owner = λ p x new is asks by. asked_quiet _;
+  group = λ p x new is asks by. asked_quiet _;
 }
 
 acts_quiet : (t : Tree) (e : Entry) → IsQuiet (acts t e e.request.op)

@@ -15,11 +15,12 @@ use Rattle.head_text.specs.declared.conditions.Unmet.{Unmet}
 use Rattle.lease_state.specs.declared.lease.LeaseFault.{LeaseFault}
 use Rattle.namespace_model.specs.declared.request.Entry.{Entry}
 use Rattle.namespace_model.specs.Nodes.{Node, is_directory, kind_of, has_kind}
-use Rattle.namespace_model.specs.Trees.{Path, Tree, at, parent, subtree, is_bare, IsTree}
+use Rattle.namespace_model.specs.Trees.{Path, Tree, at, node_at, parent, subtree, is_bare, IsTree}
 use Rattle.namespace_model.specs.Effects.{Effect, stamp, renamed, effected, put_all, take_all}
-use Rattle.namespace_model.specs.Outcomes.{Outcome, reading, refused, unless, noted, within}
-use Rattle.namespace_model.specs.Refusals.{caller_of, lacks, is_guarded, is_taken, is_unmet, is_unmet_without, lease_refuses, refuse_if, denied_by, deny_unless, unmet_for_change, refused_by_lease}
-use Rattle.namespace_model.specs.Walks.{walk, way, entered, passed, missing_below, missing_code}
+use Rattle.namespace_model.specs.Outcomes.{Outcome, reading, refused, unless, noted}
+use Rattle.namespace_model.specs.Refusals.{caller_of, lacks, is_guarded, exists_already, is_unmet, is_unmet_without, lease_refuses, refuse_if, denied_by, deny_unless, unmet_for_change, refused_by_lease}
+use Rattle.namespace_model.specs.Walks.{walk, ended, missing_below, missing_code}
+use Rattle.namespace_model.specs.Ways.{Way, reached, missing, blocked, closed, way_of, read_on}
 use Rattle.namespace_model.specs.Locality.{Among}
 use Rattle.namespace_model.specs.Rename.{Moving, rename, rename_out, rename_node, rename_into, rename_over, rename_new, fitted, shifted, grows, some_too_long}
 use Rattle.namespace_model.specs.Renames.{IsRenamed, renamed_node}
@@ -88,28 +89,19 @@ module _ (t : Tree) (e : Entry) (m : Moving) where
   noted_at None p none some h k = h
   noted_at (Some x) p none some h k = read (p ∷ []) (some x) (k x refl)
 
-  within_at : (u : Option Node) (c : Code) (some : Node → Outcome) → ((x : Node) → P (some x)) → P (within u (refused c) some)
-  within_at None c some h = off c
-  within_at (Some x) c some h = h x
-
-  passed_by : (caller : Caller) (blocked : Code) (p : Path) (x : Node) (d : Bool) (a : Outcome) → is_directory x ≡ d → P a → P (passed caller blocked p x a)
-  passed_by caller blocked p x true a same h = subst P (sym (rw (same) refl)) (go (lacks caller 1 p x) a (lacks_coded p 1 _) h)
-  passed_by caller blocked p x false a same h = subst P (sym (rw (same) refl)) (off blocked)
-
   lost : (c : Code) (d : Path) → P (missing_below c d)
   lost c [] = off code.FilesystemNotFound
   lost c (fs ∷ names) = off c
 
-  entered_by : (caller : Caller) (code : Code) (u : Option Node) (done p : Path) (a : Outcome) → P a → P (entered caller (missing_below code done) code u p a)
-  entered_by caller code None done p a h = lost code done
-  entered_by caller code (Some x) done p a h = read (p ∷ []) (passed caller code p x a) (passed_by caller code p x (is_directory x) a refl h)
+  ended_at : (c : Code) (a : Outcome) → P a → (w : Way) → P (ended (missing_below c) c a w)
+  unfolding P
+  ended_at c a h reached = h
+  ended_at c a h (missing d) = lost c d
+  ended_at c a h (blocked p) = off c
+  ended_at c a h (closed p r) = inl refl
 
-  way_to : (caller : Caller) (code : Code) (done names : Path) (a : Outcome) → P a → P (way t caller (missing_below code) code done names a)
-  way_to caller code done [] a h = h
-  way_to caller code done (n ∷ names) a h = entered_by caller code (at t (done ++ n ∷ [])) done (done ++ n ∷ []) _ (way_to caller code (done ++ n ∷ []) names a h)
-
-  walk_to : (code : Code) (p : Path) (a : Outcome) → P a → P (walk t (caller_of e) code p a)
-  walk_to code p a h = read ([] ∷ []) _ (way_to (caller_of e) code [] (parent p) a h)
+  walk_at : (c : Code) (p : Path) (next : Node → Outcome) → ((dir : Node) → P (next dir)) → P (walk t (caller_of e) c p next)
+  walk_at c p next h = read (read_on t (caller_of e) p) _ (ended_at c (next (node_at t (parent p))) (h (node_at t (parent p))) (way_of t (caller_of e) p))
 
   module _ (x : Node) (there : at t m.source ≡ Some x) where
     shifted_is : (replaced : List Path) → ((p : Path) → Among p replaced → p ≡ m.path) → P (shifted e m x replaced)
@@ -127,16 +119,16 @@ module _ (t : Tree) (e : Entry) (m : Moving) where
     into_is dir =
         go (lacks (caller_of e) 3 (parent m.path) dir) _ (lacks_coded (parent m.path) 3 _) (noted_at (at t m.path) m.path (rename_new t e m x) (rename_over t e m x dir)
         (go (is_unmet_without e) _ (unmet_coded _) (go (lease_refuses e e.request.source_lease x) (fitted t e m x []) (lease_coded _) (fitted_is [] (λ p h. absurd h))))
-        (λ y h. go (is_guarded (caller_of e) dir m.path y) _ (deny_coded _ _ m.path) (go (is_taken e) _ (refuse_coded _ code.PathAlreadyExists) (go (is_unmet e y) _ (unmet_coded _) (go (lease_refuses e e.request.source_lease x) _ (lease_coded _)
+        (λ y h. go (is_guarded (caller_of e) dir m.path y) _ (deny_coded _ _ m.path) (go (exists_already e) _ (refuse_coded _ code.PathAlreadyExists) (go (is_unmet e y) _ (unmet_coded _) (go (lease_refuses e e.request.source_lease x) _ (lease_coded _)
         (go (refuse_if (not (has_kind (kind_of x) y)) code.ResourceTypeMismatch) _ (refuse_coded _ code.ResourceTypeMismatch) (go (refuse_if (is_directory y && not (is_bare t m.path)) code.DirectoryNotEmpty) (fitted t e m x (m.path ∷ [])) (refuse_coded _ code.DirectoryNotEmpty)
         (fitted_is (m.path ∷ []) (λ p k. elim k [ inl same ↦ same | inr nothing ↦ absurd nothing ])))))))))
 
   rename_is : P (rename t e m)
   unfolding rename
   rename_is =
-      walk_to code.SourcePathNotFound m.source _ (within_at (at t (parent m.source)) code.SourcePathNotFound (rename_out t e m) (λ out.
+      walk_at code.SourcePathNotFound m.source (rename_out t e m) (λ out.
       go (lacks (caller_of e) 3 (parent m.source) out) _ (lacks_coded (parent m.source) 3 _) (noted_at (at t m.source) m.source (refused (missing_code m.source code.SourcePathNotFound)) (rename_node t e m out) (off (missing_code m.source code.SourcePathNotFound)) (λ x there.
-      go (is_guarded (caller_of e) out m.source x) _ (deny_coded _ _ m.source) (walk_to code.RenameDestinationParentPathNotFound m.path _ (within_at (at t (parent m.path)) code.RenameDestinationParentPathNotFound (rename_into t e m x) (λ into. into_is x there into)))))))
+      go (is_guarded (caller_of e) out m.source x) _ (deny_coded _ _ m.source) (walk_at code.RenameDestinationParentPathNotFound m.path (rename_into t e m x) (λ into. into_is x there into)))))
 
 -- ---- the tree afterwards
 

@@ -11,8 +11,9 @@ use Rattle.head_text.specs.declared.range.Range.{Range}
 use Rattle.lease_state.specs.declared.lease.Lease.{Lease}
 use Rattle.lease_state.specs.declared.lease.LeaseAction.{LeaseAction}
 use Rattle.lease_state.specs.declared.lease.LeaseFault.{LeaseFault}
+use Rattle.lease_state.specs.LeaseAppends.{lease_act_append}
 use Rattle.lease_state.specs.LeaseTable.{lease_act, lease_after_write}
-use Rattle.file_data.specs.FileRecord.{stage_answer, flush_answer}
+use Rattle.file_data.specs.FileRecord.{stage_answer, flush_answer, append_flush_answer}
 use Rattle.path_text.specs.Paths.{path_cmp, is_prefix}
 use Rattle.path_text.specs.Texts.{KeepsLimits}
 use Rattle.namespace_model.specs.declared.code.Code.{Code}
@@ -24,7 +25,7 @@ use Rattle.namespace_model.specs.Nodes.{Node, blank, is_directory, kind_of, has_
 use Rattle.namespace_model.specs.Trees.{Path, Tree, at, node_at, parent, subtree, is_bare, is_below, IsDirectoryAt, IsTree}
 use Rattle.namespace_model.specs.Effects.{Put, stamp, keep}
 use Rattle.namespace_model.specs.Outcomes.{Outcome, reading, answered, refused, unless, noted}
-use Rattle.namespace_model.specs.Refusals.{caller_of, is_no_superuser, lacks, is_guarded, is_taken, is_unmet, is_unmet_look, is_unmet_without, lease_refuses, refuse_if, first_refusal, may_not_set_access, may_not_set_owner, may_not_set_group}
+use Rattle.namespace_model.specs.Refusals.{caller_of, is_no_superuser, lacks, is_guarded, exists_already, is_unmet, is_unmet_look, is_unmet_without, lease_refuses, refuse_if, first_refusal, may_not_set_access, may_not_set_owner, may_not_set_group}
 use Rattle.namespace_model.specs.Walks.{missing_code}
 use Rattle.namespace_model.specs.Pages.{above, on_the_way}
 use Rattle.namespace_model.specs.Locality.{Among}
@@ -36,15 +37,16 @@ use Rattle.namespace_model.specs.SetFilesystem.{set_filesystem, filesystem_set}
 use Rattle.namespace_model.specs.DeleteFilesystem.{delete_filesystem, filesystem_gone}
 use Rattle.namespace_model.specs.ListFilesystems.{list_filesystems}
 use Rattle.namespace_model.specs.ListPaths.{list_paths, list_node, list_page, paged, listed, is_closed}
-use Rattle.namespace_model.specs.Create.{Making, create, create_from, create_in, create_under, create_over, create_new, made_below, new_nodes}
+use Rattle.namespace_model.specs.Create.{Making, create, create_from, create_in, create_over, create_new, made_below, new_nodes}
 use Rattle.namespace_model.specs.Delete.{delete, delete_in, delete_node, cleared, gone, not_clearable}
 use Rattle.namespace_model.specs.Rename.{Moving, rename, rename_out, rename_node, rename_into, rename_over, rename_new, fitted, shifted, grows, some_too_long}
 use Rattle.namespace_model.specs.ReadFile.{read_file, read_node, bytes_read, part_read, last_byte}
 use Rattle.namespace_model.specs.GetProperties.{get_properties, properties_of, properties_shown}
 use Rattle.namespace_model.specs.GetAccess.{get_access, access_of, access_shown}
 use Rattle.namespace_model.specs.CheckAccess.{check_access, checked_on}
-use Rattle.namespace_model.specs.Append.{append, append_node, appended, refused_staging, data_of}
-use Rattle.namespace_model.specs.Flush.{flush, flush_node, flushed_to, refused_flush}
+use Rattle.namespace_model.specs.Append.{Appending, append, append_node, append_data, append_put, appended, appended_node, refused_flush_too}
+use Rattle.namespace_model.specs.Contents.{data_of, refused_staging, refused_flush}
+use Rattle.namespace_model.specs.Flush.{flush, flush_node, flushed_to}
 use Rattle.namespace_model.specs.SetProperties.{set_properties, set_properties_of, properties_set}
 use Rattle.namespace_model.specs.SetAccess.{Setting, set_access, set_access_of, access_put, pair_set, has_default, sticky_set}
 use Rattle.namespace_model.specs.LeaseNode.{act_on_lease, lease_node, lease_put}
@@ -54,7 +56,7 @@ use Rattle.namespace_model.proofs.Lookups.{keys_among, path_from_eq}
 use Rattle.namespace_model.proofs.Prefixes.{parent_name}
 use Rattle.namespace_model.proofs.Alikeness.{nothing_below}
 use Rattle.namespace_model.proofs.PageLooks.{above_keys, over_test}
-use Rattle.namespace_model.proofs.Everywhere.{unless_has, unless_if_has, noted_has, within_has, way_has, walk_has, found_has}
+use Rattle.namespace_model.proofs.Everywhere.{under_lease_has, unless_has, unless_if_has, noted_has, walk_or_has, walk_has, found_has}
 use Rattle.namespace_model.proofs.Effected.{drop_front}
 use Rattle.namespace_model.proofs.ShapedEdits.{none_some, still_shape, edit_shape, edits_shaped, gone_shaped, nothing_under}
 use Rattle.namespace_model.proofs.ShapedMaking.{made_shaped, nothing_replaced, one_replaced, IsReplaced, paths_of}
@@ -194,12 +196,19 @@ module _ (t : Tree) (is : IsTree t) (e : Entry) where
 
   -- ---- edits
 
-  pub append_shaped : (p : Path) (position : ℕ) → IsShaped t (append t e p position)
+  pub append_shaped : (p : Path) (a : Appending) → IsShaped t (append t e p a)
   unfolding append
-  append_shaped p position =
-      at_node p (append_node e p position) (λ x h.
+  append_shaped p a =
+      at_node p (append_node e p a) (λ x h.
       go (lacks (caller_of e) 6 p x) _ (if (is_directory x) code.ResourceTypeMismatch _ (λ file.
-      go (lease_refuses e e.request.lease x) _ (go (refused_staging (stage_answer (data_of x.content) position e.request.body)) (appended e p position x) (edit_shape t p _ x h (sym file))))))
+      under_lease_has (IsShaped t) quiet read (lease_act_append x.lease a.action e.request.lease e.moment) (append_data e p a x) (λ after.
+      go (refused_staging (stage_answer (data_of x.content) a.position e.request.body)) _
+      (go (refused_flush_too a.flush (append_flush_answer (data_of x.content) a.position e.request.body)) (appended e p a x after)
+      (edit_shape t p (append_put a.flush e.moment (appended_node e a x after)) x h (still_a_file a.flush (appended_node e a x after) refl ∙ sym file)))))))
+    where
+      still_a_file : (flush : Bool) (y : Node) → is_directory y ≡ false → is_directory (append_put flush e.moment y).node ≡ false
+      still_a_file true y same = same
+      still_a_file false y same = same
 
   pub flush_shaped : (p : Path) (position : ℕ) (retain : Bool) → IsShaped t (flush t e p position retain)
   unfolding flush
@@ -240,10 +249,10 @@ module _ (t : Tree) (is : IsTree t) (e : Entry) where
   pub delete_shaped : (p : Path) (recursive : Bool) → IsBelowRoot p → IsShaped t (delete t e p recursive)
   unfolding delete
   delete_shaped p recursive sound =
-      walk_has (IsShaped t) quiet read t (caller_of e) code.PathNotFound p _ is.root (λ up.
-      within_has (IsShaped t) quiet read (at t (parent p)) (refused code.PathNotFound) (delete_in t e p recursive) (still_shape t) (λ dir d.
-      go (lacks (caller_of e) 3 (parent p) dir) _ (noted_has (IsShaped t) quiet read (at t p) p (refused (missing_code p code.PathNotFound)) (delete_node t e p recursive dir) (λ h. still_shape t) (λ x h.
-      go (is_guarded (caller_of e) dir p x) _ (go (is_unmet e x) _ (go (lease_refuses e e.request.lease x) _ (if (not recursive && (is_directory x && not (is_bare t p))) code.DirectoryNotEmpty _ (λ k. by_depth recursive))))))))
+      walk_has (IsShaped t) quiet read t (caller_of e) code.PathNotFound p (delete_in t e p recursive) is.root (λ up.
+      go (lacks (caller_of e) 3 (parent p) (node_at t (parent p))) _
+      (noted_has (IsShaped t) quiet read (at t p) p (refused (missing_code p code.PathNotFound)) (delete_node t e p recursive (node_at t (parent p))) (λ h. still_shape t) (λ x h.
+      go (is_guarded (caller_of e) (node_at t (parent p)) p x) _ (go (is_unmet e x) _ (go (lease_refuses e e.request.lease x) _ (if (not recursive && (is_directory x && not (is_bare t p))) code.DirectoryNotEmpty _ (λ k. by_depth recursive)))))))
     where
       by_depth : (deep : Bool) → IsShaped t (cleared t e p deep (subtree t p))
       by_depth true = go (first_refusal (not_clearable t (caller_of e)) t (subtree t p)) (gone (parent p) (subtree t p)) (gone_shaped t is p (parent p) (long_path p sound.parts) refl)
@@ -268,18 +277,17 @@ module _ (t : Tree) (is : IsTree t) (e : Entry) where
     new_shaped base n rest x whole dir none =
         go (is_unmet_without e) (made_below e m base x []) (made_below_shaped m base (n ∷ rest) x [] whole sound.limits (nothing_replaced t is.parents base n rest none) dir)
 
-    from_shaped : (d : Path) (n : List ℕ) (rest : Path) → parent m.path ≡ d ++ n ∷ rest → IsDirectoryAt t d → at t (d ++ n ∷ []) ≡ None → IsShaped t (create_from t e m d)
-    from_shaped [] n rest up dir none = still_shape t
-    from_shaped (fs ∷ names) n rest up dir none =
+    from_shaped : (d : Path) (n : List ℕ) (rest : Path) (x : Node) → parent m.path ≡ d ++ n ∷ rest → IsDirectoryAt t d → at t (d ++ n ∷ []) ≡ None → IsShaped t (create_from e m d x)
+    from_shaped [] n rest x up dir none = still_shape t
+    from_shaped (fs ∷ names) n rest x up dir none =
         let name = last_name in
         let whole : m.path ≡ (fs ∷ names) ++ n ∷ (rest ++ name.0 ∷ []) = name.1 ∙ ap (λ p. p ++ name.0 ∷ []) up ∙ append_assoc (fs ∷ names) (n ∷ rest) (name.0 ∷ []) in
-        within_has (IsShaped t) quiet read (at t (fs ∷ names)) (refused code.PathNotFound) (create_under e m (fs ∷ names)) (still_shape t) (λ x h.
-        go (lacks (caller_of e) 3 (fs ∷ names) x) (create_new e m (fs ∷ names) x) (new_shaped (fs ∷ names) n (rest ++ name.0 ∷ []) x whole dir none))
+        go (lacks (caller_of e) 3 (fs ∷ names) x) (create_new e m (fs ∷ names) x) (new_shaped (fs ∷ names) n (rest ++ name.0 ∷ []) x whole dir none)
 
     over_shaped : (dir y : Node) → IsDirectoryAt t (parent m.path) → at t m.path ≡ Some y → IsShaped t (create_over t e m dir y)
     over_shaped dir y up there =
         let name = last_name in
-        go (is_guarded (caller_of e) dir m.path y) _ (go (is_taken e) _ (go (is_unmet e y) _
+        go (is_guarded (caller_of e) dir m.path y) _ (go (exists_already e) _ (go (is_unmet e y) _
         (if (not (has_kind m.kind y)) code.ResourceTypeMismatch _ (λ same_kind.
         if (is_directory y && not (is_bare t m.path)) code.DirectoryNotEmpty (made_below e m (parent m.path) dir (m.path ∷ [])) (λ bare.
         made_below_shaped m (parent m.path) (name.0 ∷ []) dir (m.path ∷ []) name.1 sound.limits
@@ -296,9 +304,9 @@ module _ (t : Tree) (is : IsTree t) (e : Entry) where
   pub create_shaped : (m : Making) → IsBelowRoot m.path → IsShaped t (create t e m)
   unfolding create
   create_shaped m sound =
-      way_has (IsShaped t) quiet read t (caller_of e) (create_from t e m) code.ResourceTypeMismatch [] (parent m.path) _ is.root
-      (λ d n rest up dir none. from_shaped m sound d n rest up dir none)
-      (λ up. within_has (IsShaped t) quiet read (at t (parent m.path)) (refused code.PathNotFound) (create_in t e m) (still_shape t) (λ dir h. in_shaped m sound dir up))
+      walk_or_has (IsShaped t) quiet read t (caller_of e) (create_from e m) code.ResourceTypeMismatch m.path (create_in t e m) is.root
+      (λ d gone. from_shaped m sound d gone.name gone.rest (node_at t d) gone.whole_is (gone.directory is.root) gone.none)
+      (λ up. in_shaped m sound (node_at t (parent m.path)) up)
 
   -- ---- rename
 
@@ -324,18 +332,18 @@ module _ (t : Tree) (is : IsTree t) (e : Entry) where
         go (lacks (caller_of e) 3 (parent m.path) dir) _
         (noted_has (IsShaped t) quiet read (at t m.path) m.path (rename_new t e m x) (rename_over t e m x dir)
         (λ none. go (is_unmet_without e) _ (go (lease_refuses e e.request.source_lease x) (fitted t e m x []) (fitted_shaped [] (none_cleared none))))
-        (λ y here. go (is_guarded (caller_of e) dir m.path y) _ (go (is_taken e) _ (go (is_unmet e y) _ (go (lease_refuses e e.request.source_lease x) _
+        (λ y here. go (is_guarded (caller_of e) dir m.path y) _ (go (exists_already e) _ (go (is_unmet e y) _ (go (lease_refuses e e.request.source_lease x) _
         (if (not (has_kind (kind_of x) y)) code.ResourceTypeMismatch _ (λ kind. if (is_directory y && not (is_bare t m.path)) code.DirectoryNotEmpty (fitted t e m x (m.path ∷ [])) (λ bare. fitted_shaped (m.path ∷ []) (one_cleared y here bare)))))))))
 
   pub rename_shaped : (m : Moving) → IsBelowRoot m.path → IsBelowRoot m.source → CanBeMoved m.source m.path → IsShaped t (rename t e m)
   unfolding rename
   rename_shaped m to_sound from_sound can =
-      walk_has (IsShaped t) quiet read t (caller_of e) code.SourcePathNotFound m.source _ is.root (λ up.
-      within_has (IsShaped t) quiet read (at t (parent m.source)) (refused code.SourcePathNotFound) (rename_out t e m) (still_shape t) (λ out h.
-      go (lacks (caller_of e) 3 (parent m.source) out) _ (noted_has (IsShaped t) quiet read (at t m.source) m.source (refused (missing_code m.source code.SourcePathNotFound)) (rename_node t e m out) (λ k. still_shape t) (λ x there.
-      go (is_guarded (caller_of e) out m.source x) _
-      (walk_has (IsShaped t) quiet read t (caller_of e) code.RenameDestinationParentPathNotFound m.path _ is.root (λ into_up.
-      within_has (IsShaped t) quiet read (at t (parent m.path)) (refused code.RenameDestinationParentPathNotFound) (rename_into t e m x) (still_shape t) (λ into k. rename_into_shaped m from_sound to_sound can x there into_up into)))))))
+      walk_has (IsShaped t) quiet read t (caller_of e) code.SourcePathNotFound m.source (rename_out t e m) is.root (λ up.
+      go (lacks (caller_of e) 3 (parent m.source) (node_at t (parent m.source))) _
+      (noted_has (IsShaped t) quiet read (at t m.source) m.source (refused (missing_code m.source code.SourcePathNotFound)) (rename_node t e m (node_at t (parent m.source))) (λ k. still_shape t) (λ x there.
+      go (is_guarded (caller_of e) (node_at t (parent m.source)) m.source x) _
+      (walk_has (IsShaped t) quiet read t (caller_of e) code.RenameDestinationParentPathNotFound m.path (rename_into t e m x) is.root (λ into_up.
+      rename_into_shaped m from_sound to_sound can x there into_up (node_at t (parent m.path)))))))
 
   -- ---- batches
 

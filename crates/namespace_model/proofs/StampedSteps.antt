@@ -8,10 +8,12 @@ use Rattle.acl_text.specs.declared.acl.AclPair.{AclPair}
 use Rattle.acl_text.specs.declared.acl.AclFault.{AclFault}
 use Rattle.acl_text.specs.declared.perm.ModeBits.{ModeBits}
 use Rattle.head_text.specs.declared.range.Range.{Range}
-use Rattle.file_data.specs.FileRecord.{stage_answer, flush_answer}
+use Rattle.file_data.specs.FileRecord.{stage_answer, flush_answer, append_flush_answer}
 use Rattle.lease_state.specs.declared.lease.Lease.{Lease}
 use Rattle.lease_state.specs.declared.lease.LeaseAction.{LeaseAction}
 use Rattle.lease_state.specs.declared.lease.LeaseFault.{LeaseFault}
+use Rattle.lease_state.specs.declared.lease.AppendLease.{AppendLease}
+use Rattle.lease_state.specs.LeaseAppends.{lease_act_append}
 use Rattle.lease_state.specs.LeaseTable.{lease_act, lease_after_write}
 use Rattle.path_text.specs.Paths.{path_cmp}
 use Rattle.namespace_model.specs.declared.code.Code.{Code}
@@ -25,8 +27,8 @@ use Rattle.namespace_model.specs.declared.request.Entry.{Entry}
 use Rattle.namespace_model.specs.Nodes.{Node, is_directory, kind_of, has_kind, bytes_in}
 use Rattle.namespace_model.specs.Trees.{Path, Tree, at, node_at, parent, subtree, is_bare, is_below, IsDirectoryAt}
 use Rattle.namespace_model.specs.Effects.{Put, stamp, keep, nothing}
-use Rattle.namespace_model.specs.Outcomes.{Outcome, reading, answered, refused, unless, noted, within}
-use Rattle.namespace_model.specs.Refusals.{caller_of, is_no_superuser, lacks, is_guarded, is_taken, is_unmet, is_unmet_look, is_unmet_without, lease_refuses, refuse_if, first_refusal, may_not_set_access, may_not_set_owner, may_not_set_group}
+use Rattle.namespace_model.specs.Outcomes.{Outcome, reading, answered, refused, unless, noted}
+use Rattle.namespace_model.specs.Refusals.{caller_of, is_no_superuser, lacks, is_guarded, exists_already, is_unmet, is_unmet_look, is_unmet_without, lease_refuses, refuse_if, first_refusal, may_not_set_access, may_not_set_owner, may_not_set_group}
 use Rattle.namespace_model.specs.Walks.{walk, missing_code}
 use Rattle.namespace_model.specs.Looks.{found}
 use Rattle.namespace_model.specs.Pages.{on_the_way}
@@ -37,22 +39,23 @@ use Rattle.namespace_model.specs.SetFilesystem.{set_filesystem, filesystem_set}
 use Rattle.namespace_model.specs.DeleteFilesystem.{delete_filesystem, filesystem_gone}
 use Rattle.namespace_model.specs.ListFilesystems.{list_filesystems}
 use Rattle.namespace_model.specs.ListPaths.{list_paths, list_node, list_page, paged, listed, is_closed}
-use Rattle.namespace_model.specs.Create.{Making, create, create_from, create_in, create_under, create_over, create_new, made_below, new_nodes, new_node, new_directory}
+use Rattle.namespace_model.specs.Create.{Making, create, create_from, create_in, create_over, create_new, made_below, new_nodes, new_node, new_directory}
 use Rattle.namespace_model.specs.Delete.{delete, delete_in, delete_node, cleared, gone, not_clearable}
 use Rattle.namespace_model.specs.Rename.{Moving, rename, rename_out, rename_node, rename_into, rename_over, rename_new, fitted, shifted, grows, some_too_long}
 use Rattle.namespace_model.specs.ReadFile.{read_file, read_node, bytes_read, part_read, last_byte}
 use Rattle.namespace_model.specs.GetProperties.{get_properties, properties_of, properties_shown}
 use Rattle.namespace_model.specs.GetAccess.{get_access, access_of, access_shown}
 use Rattle.namespace_model.specs.CheckAccess.{check_access, checked_on}
-use Rattle.namespace_model.specs.Append.{append, append_node, appended, refused_staging, data_of}
-use Rattle.namespace_model.specs.Flush.{flush, flush_node, flushed_to, refused_flush}
+use Rattle.namespace_model.specs.Append.{Appending, append, append_node, append_data, append_put, appended, appended_node, refused_flush_too}
+use Rattle.namespace_model.specs.Contents.{data_of, refused_staging, refused_flush}
+use Rattle.namespace_model.specs.Flush.{flush, flush_node, flushed_to}
 use Rattle.namespace_model.specs.SetProperties.{set_properties, set_properties_of, properties_set}
 use Rattle.namespace_model.specs.SetAccess.{set_access, set_access_of, access_put, pair_set, has_default, sticky_set}
 use Rattle.namespace_model.specs.LeaseNode.{act_on_lease, lease_node, lease_put}
 use Rattle.namespace_model.specs.SetAccessRecursive.{set_access_recursive, batch_below, batch_page, batch_of, Batch, turn_of, with_turn}
 use Rattle.namespace_model.specs.Step.{root_of}
 use Rattle.namespace_model.proofs.Lookups.{path_from_eq}
-use Rattle.namespace_model.proofs.Everywhere.{unless_has, noted_has, within_has, way_has, walk_has, found_has}
+use Rattle.namespace_model.proofs.Everywhere.{under_lease_has, unless_has, noted_has, walk_or_has, walk_has, found_has}
 use Rattle.namespace_model.proofs.ShapedEdits.{none_some}
 
 -- what a step puts, by an operation that may be another one than the entry's
@@ -96,11 +99,8 @@ module _ (t : Tree) (root : IsDirectoryAt t []) (e : Entry) where
     noted_at : (p : Path) (none : Outcome) (some : Node → Outcome) → StampsOf t e asked none → ((x : Node) → at t p ≡ Some x → StampsOf t e asked (some x)) → StampsOf t e asked (noted (at t p) p none some)
     noted_at p none some h k = noted_has (StampsOf t e asked) quiet read (at t p) p none some (λ i. h) k
 
-    within_at : (p : Path) (c : Code) (some : Node → Outcome) → ((x : Node) → StampsOf t e asked (some x)) → StampsOf t e asked (within (at t p) (refused c) some)
-    within_at p c some h = within_has (StampsOf t e asked) quiet read (at t p) (refused c) some (still asked) (λ x i. h x)
-
-    walk_to : (c : Code) (p : Path) (a : Outcome) → StampsOf t e asked a → StampsOf t e asked (walk t (caller_of e) c p a)
-    walk_to c p a h = walk_has (StampsOf t e asked) quiet read t (caller_of e) c p a root (λ i. h)
+    walk_at : (c : Code) (p : Path) (next : Node → Outcome) → ((dir : Node) → StampsOf t e asked (next dir)) → StampsOf t e asked (walk t (caller_of e) c p next)
+    walk_at c p next h = walk_has (StampsOf t e asked) quiet read t (caller_of e) c p next root (λ i. h (node_at t (parent p)))
 
   kept : (p : Path) (x y : Node) → at t p ≡ Some x → y.number ≡ x.number → y.moment ≡ x.moment → IsKeep t p (keep y)
   kept p x y there number moment = record { old = x; there = there; stamped = refl; number = number; moment = moment }
@@ -171,11 +171,25 @@ module _ (t : Tree) (root : IsDirectoryAt t []) (e : Entry) where
 
   -- ---- edits
 
-  pub append_stamps : (p : Path) (position : ℕ) → StampsOf t e (op.Append p position) (append t e p position)
-  unfolding append
-  append_stamps p position =
-      at_node (op.Append p position) p (append_node e p position) (λ x h. go (op.Append p position) (lacks (caller_of e) 6 p x) _ (go (op.Append p position) (refuse_if (is_directory x) code.ResourceTypeMismatch) _ (go (op.Append p position) (lease_refuses e e.request.lease x) _
-      (go (op.Append p position) (refused_staging (stage_answer (data_of x.content) position e.request.body)) (appended e p position x) (one_put (op.Append p position) [] (p ∷ []) [] None p _ refl (kept p x _ h refl refl))))))
+  append_right : (flush : Bool) (p : Path) (x y : Node) → at t p ≡ Some x → y.number ≡ x.number → y.moment ≡ x.moment → IsRightPut flush t e p (append_put flush e.moment y)
+  append_right true p x y there number moment = stamped y
+  append_right false p x y there number moment = kept p x y there number moment
+
+  module _ (p : Path) (position : ℕ) (flush retain : Bool) (action : AppendLease) where
+    abbrev appending : Appending
+    appending = record { position = position; flush = flush; retain = retain; action = action }
+
+    abbrev append_op : Op
+    append_op = op.Append p position flush retain action
+
+    pub append_stamps : StampsOf t e (op.Append p position flush retain action) (append t e p (record { position = position; flush = flush; retain = retain; action = action }))
+    unfolding append
+    append_stamps =
+        at_node append_op p (append_node e p appending) (λ x h. go append_op (lacks (caller_of e) 6 p x) _ (go append_op (refuse_if (is_directory x) code.ResourceTypeMismatch) _
+        (under_lease_has (StampsOf t e append_op) (quiet append_op) (read append_op) (lease_act_append x.lease action e.request.lease e.moment) (append_data e p appending x) (λ after.
+        go append_op (refused_staging (stage_answer (data_of x.content) position e.request.body)) _
+        (go append_op (refused_flush_too flush (append_flush_answer (data_of x.content) position e.request.body)) (appended e p appending x after)
+        (one_put append_op [] (p ∷ []) [] None p (append_put flush e.moment (appended_node e appending x after)) refl (append_right flush p x (appended_node e appending x after) h refl refl)))))))
 
   pub flush_stamps : (p : Path) (position : ℕ) (retain : Bool) → StampsOf t e (op.Flush p position retain) (flush t e p position retain)
   unfolding flush
@@ -219,10 +233,10 @@ module _ (t : Tree) (root : IsDirectoryAt t []) (e : Entry) where
   pub delete_stamps : (p : Path) (recursive : Bool) → StampsOf t e (op.Delete p recursive) (delete t e p recursive)
   unfolding delete
   delete_stamps p recursive =
-      walk_to (op.Delete p recursive) code.PathNotFound p _ (within_at (op.Delete p recursive) (parent p) code.PathNotFound (delete_in t e p recursive) (λ dir.
+      walk_at (op.Delete p recursive) code.PathNotFound p (delete_in t e p recursive) (λ dir.
       go (op.Delete p recursive) (lacks (caller_of e) 3 (parent p) dir) _ (noted_at (op.Delete p recursive) p (refused (missing_code p code.PathNotFound)) (delete_node t e p recursive dir) (still (op.Delete p recursive)) (λ x h.
       go (op.Delete p recursive) (is_guarded (caller_of e) dir p x) _ (go (op.Delete p recursive) (is_unmet e x) _ (go (op.Delete p recursive) (lease_refuses e e.request.lease x) _
-      (go (op.Delete p recursive) (refuse_if (not recursive && (is_directory x && not (is_bare t p))) code.DirectoryNotEmpty) _ (by_depth recursive))))))))
+      (go (op.Delete p recursive) (refuse_if (not recursive && (is_directory x && not (is_bare t p))) code.DirectoryNotEmpty) _ (by_depth recursive)))))))
     where
       by_depth : (deep : Bool) → StampsOf t e (op.Delete p recursive) (cleared t e p deep (subtree t p))
       by_depth true = go (op.Delete p recursive) (first_refusal (not_clearable t (caller_of e)) t (subtree t p)) (gone (parent p) (subtree t p)) (taken_away (op.Delete p recursive) (parent p ∷ subtree t p) (subtree t p))
@@ -257,21 +271,21 @@ module _ (t : Tree) (root : IsDirectoryAt t []) (e : Entry) where
     new_made : (base : Path) (x : Node) → StampsOf t e making (create_new e wanted base x)
     new_made base x = go making (is_unmet_without e) (made_below e wanted base x []) (made_stamps base x [])
 
-    from_stamps : (d : Path) → StampsOf t e making (create_from t e wanted d)
-    from_stamps [] = still making
-    from_stamps (fs ∷ names) = within_at making (fs ∷ names) code.PathNotFound (create_under e wanted (fs ∷ names)) (λ x. go making (lacks (caller_of e) 3 (fs ∷ names) x) (create_new e wanted (fs ∷ names) x) (new_made (fs ∷ names) x))
+    from_stamps : (d : Path) (x : Node) → StampsOf t e making (create_from e wanted d x)
+    from_stamps [] x = still making
+    from_stamps (fs ∷ names) x = go making (lacks (caller_of e) 3 (fs ∷ names) x) (create_new e wanted (fs ∷ names) x) (new_made (fs ∷ names) x)
 
     in_stamps : (dir : Node) → StampsOf t e making (create_in t e wanted dir)
     in_stamps dir =
         go making (lacks (caller_of e) 3 (parent path) dir) _ (noted_at making path (create_new e wanted (parent path) dir) (create_over t e wanted dir) (new_made (parent path) dir) (λ y h.
-        go making (is_guarded (caller_of e) dir path y) _ (go making (is_taken e) _ (go making (is_unmet e y) _ (go making (refuse_if (not (has_kind kind y)) code.ResourceTypeMismatch) _
+        go making (is_guarded (caller_of e) dir path y) _ (go making (exists_already e) _ (go making (is_unmet e y) _ (go making (refuse_if (not (has_kind kind y)) code.ResourceTypeMismatch) _
         (go making (refuse_if (is_directory y && not (is_bare t path)) code.DirectoryNotEmpty) (made_below e wanted (parent path) dir (path ∷ [])) (made_stamps (parent path) dir (path ∷ []))))))))
 
     pub create_stamps : StampsOf t e (op.Create path kind permissions umask props) (create t e (record { path = path; kind = kind; permissions = permissions; umask = umask; props = props }))
     unfolding create
     create_stamps =
-        way_has (StampsOf t e making) (quiet making) (read making) t (caller_of e) (create_from t e wanted) code.ResourceTypeMismatch [] (parent path) _ root (λ d n rest up dir none. from_stamps d)
-        (λ up. within_at making (parent path) code.PathNotFound (create_in t e wanted) (λ dir. in_stamps dir))
+        walk_or_has (StampsOf t e making) (quiet making) (read making) t (caller_of e) (create_from e wanted) code.ResourceTypeMismatch path (create_in t e wanted) root
+        (λ d none. from_stamps d (node_at t d)) (λ up. in_stamps (node_at t (parent path)))
 
   -- ---- rename
 
@@ -297,15 +311,15 @@ module _ (t : Tree) (root : IsDirectoryAt t []) (e : Entry) where
     into_stamps x dir =
         go renaming (lacks (caller_of e) 3 (parent path) dir) _ (noted_at renaming path (rename_new t e moving x) (rename_over t e moving x dir)
         (go renaming (is_unmet_without e) _ (go renaming (lease_refuses e e.request.source_lease x) (fitted t e moving x []) (fitted_stamps x [])))
-        (λ y h. go renaming (is_guarded (caller_of e) dir path y) _ (go renaming (is_taken e) _ (go renaming (is_unmet e y) _ (go renaming (lease_refuses e e.request.source_lease x) _ (go renaming (refuse_if (not (has_kind (kind_of x) y)) code.ResourceTypeMismatch) _
+        (λ y h. go renaming (is_guarded (caller_of e) dir path y) _ (go renaming (exists_already e) _ (go renaming (is_unmet e y) _ (go renaming (lease_refuses e e.request.source_lease x) _ (go renaming (refuse_if (not (has_kind (kind_of x) y)) code.ResourceTypeMismatch) _
         (go renaming (refuse_if (is_directory y && not (is_bare t path)) code.DirectoryNotEmpty) (fitted t e moving x (path ∷ [])) (fitted_stamps x (path ∷ [])))))))))
 
     pub rename_stamps : StampsOf t e (op.Rename path source props) (rename t e (record { source = source; path = path; props = props }))
     unfolding rename
     rename_stamps =
-        walk_to renaming code.SourcePathNotFound source _ (within_at renaming (parent source) code.SourcePathNotFound (rename_out t e moving) (λ out.
+        walk_at renaming code.SourcePathNotFound source (rename_out t e moving) (λ out.
         go renaming (lacks (caller_of e) 3 (parent source) out) _ (noted_at renaming source (refused (missing_code source code.SourcePathNotFound)) (rename_node t e moving out) (still renaming) (λ x h.
-        go renaming (is_guarded (caller_of e) out source x) _ (walk_to renaming code.RenameDestinationParentPathNotFound path _ (within_at renaming (parent path) code.RenameDestinationParentPathNotFound (rename_into t e moving x) (λ into. into_stamps x into)))))))
+        go renaming (is_guarded (caller_of e) out source x) _ (walk_at renaming code.RenameDestinationParentPathNotFound path (rename_into t e moving x) (λ into. into_stamps x into)))))
 
   -- ---- batches
 

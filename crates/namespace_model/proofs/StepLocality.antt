@@ -43,7 +43,7 @@ acts_local e (op.Read path range) = read_file_local e path range
 acts_local e (op.GetProperties path status) = get_properties_local e path status
 acts_local e (op.GetAccess path) = get_access_local e path
 acts_local e (op.CheckAccess path want) = check_access_local e path want
-acts_local e (op.Append path position) = append_local e path position
+acts_local e (op.Append path position flush retain action) = append_local e path (record { position = position; flush = flush; retain = retain; action = action })
 acts_local e (op.Flush path position retain) = flush_local e path position retain
 acts_local e (op.SetProperties path props) = set_properties_local e path props
 acts_local e (op.SetAccess path owner group permissions acl) = set_access_local e path (record { owner = owner; group = group; permissions = permissions; acl = acl })

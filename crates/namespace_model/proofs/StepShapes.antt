@@ -27,7 +27,7 @@ acts_shaped t is e (op.Read path range) body sound = read_file_shaped t is e pat
 acts_shaped t is e (op.GetProperties path status) body sound = get_properties_shaped t is e path status
 acts_shaped t is e (op.GetAccess path) body sound = get_access_shaped t is e path
 acts_shaped t is e (op.CheckAccess path want) body sound = check_access_shaped t is e path want
-acts_shaped t is e (op.Append path position) body sound = append_shaped t is e path position
+acts_shaped t is e (op.Append path position flush retain action) body sound = append_shaped t is e path (record { position = position; flush = flush; retain = retain; action = action })
 acts_shaped t is e (op.Flush path position retain) body sound = flush_shaped t is e path position retain
 acts_shaped t is e (op.SetProperties path props) body sound = set_properties_shaped t is e path props
 acts_shaped t is e (op.SetAccess path owner group permissions acl) body sound = set_access_shaped t is e path (record { owner = owner; group = group; permissions = permissions; acl = acl })

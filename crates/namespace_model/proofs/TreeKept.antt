@@ -26,7 +26,7 @@ some_not_none o e n = false≢true (sym (ap is_some n) ∙ e)
 pub put_found : (p : Path) (xs : List (Path × Put)) (put : Put) → find path_cmp p xs ≡ Some put → Among p (map (λ (x : Path × Put). x.0) xs)
 put_found p xs put e = any_among p (map (λ (x : Path × Put). x.0) xs) (sym (is_some-find path_cmp p xs) ∙ ap is_some e)
 
-find_put : (p : Path) (xs : List (Path × Put)) → Among p (map (λ (x : Path × Put). x.0) xs) → (put : Put) × (find path_cmp p xs ≡ Some put)
+pub find_put : (p : Path) (xs : List (Path × Put)) → Among p (map (λ (x : Path × Put). x.0) xs) → (put : Put) × (find path_cmp p xs ≡ Some put)
 find_put p xs h = taken_out (find path_cmp p xs) (is_some-find path_cmp p xs ∙ among_any p (map (λ (x : Path × Put). x.0) xs) h)
   where
     taken_out : (o : Option Put) → is_some o ≡ true → (put : Put) × (o ≡ Some put)

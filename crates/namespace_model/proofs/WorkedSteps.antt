@@ -1,6 +1,7 @@
 -- Steps of worked conversations, which the checker computes.
 use Rattle.std.proofs.Common.{refl}
 use Rattle.namespace_model.specs.Access.{access_check}
+use Rattle.namespace_model.specs.Append.{append}
 use Rattle.namespace_model.specs.CheckAccess.{check_access}
 use Rattle.namespace_model.specs.Create.{create}
 use Rattle.namespace_model.specs.CreateFilesystem.{create_filesystem}
@@ -9,7 +10,7 @@ use Rattle.namespace_model.specs.Flush.{flush}
 use Rattle.namespace_model.specs.ReadFile.{read_file}
 use Rattle.namespace_model.specs.SetProperties.{set_properties}
 use Rattle.namespace_model.specs.Step.{outcome}
-use Rattle.namespace_model.specs.Worked.{AFilesystemIsMadeByTheSuperuserAlone, TheMaskLimitsANamedUser, TheOwnerIsJudgedByItsEntry, AStickyDirectoryGuardsItsChildren, AFlushFillsNoGap, ARangeIsCutToTheLastByte, ALeaseKeepsAWriterOutUntilItsEnd, ALeaseThatHasComeToItsEndLetsItIn, TheUmaskRestrictsNewNodes, ADirectoryThatIsNotEmptyStays}
+use Rattle.namespace_model.specs.Worked.{AFilesystemIsMadeByTheSuperuserAlone, TheMaskLimitsANamedUser, TheOwnerIsJudgedByItsEntry, AStickyDirectoryGuardsItsChildren, AFlushFillsNoGap, ARangeIsCutToTheLastByte, ALeaseKeepsAWriterOutUntilItsEnd, ALeaseThatHasComeToItsEndLetsItIn, TheUmaskRestrictsNewNodes, ADirectoryThatIsNotEmptyStays, AnAppendThatFlushesFillsNoGap, AnAppendMayFlush, AnAppendMayTakeALease, AnAppendIsKeptOutByALease}
 
 pub a_filesystem_is_made_by_the_superuser_alone : AFilesystemIsMadeByTheSuperuserAlone
 unfolding outcome create_filesystem
@@ -45,8 +46,24 @@ a_lease_that_has_come_to_its_end_lets_it_in t root there = rw (root, there) refl
 
 pub the_umask_restricts_new_nodes : TheUmaskRestrictsNewNodes
 unfolding outcome create access_check
-the_umask_restricts_new_nodes t root none = rw (root, none) refl
+the_umask_restricts_new_nodes t root none = rw (root, none) (rw (root) refl)
 
 pub a_directory_that_is_not_empty_stays : ADirectoryThatIsNotEmptyStays
 unfolding outcome delete access_check
 a_directory_that_is_not_empty_stays t root there below = rw (root, there, below) refl
+
+pub an_append_that_flushes_fills_no_gap : AnAppendThatFlushesFillsNoGap
+unfolding outcome append access_check
+an_append_that_flushes_fills_no_gap t root there = rw (root, there) refl
+
+pub an_append_may_flush : AnAppendMayFlush
+unfolding outcome append access_check
+an_append_may_flush t root there = rw (root, there) refl
+
+pub an_append_may_take_a_lease : AnAppendMayTakeALease
+unfolding outcome append access_check
+an_append_may_take_a_lease t root there = rw (root, there) refl
+
+pub an_append_is_kept_out_by_a_lease : AnAppendIsKeptOutByALease
+unfolding outcome append access_check
+an_append_is_kept_out_by_a_lease t root there = rw (root, there) refl

@@ -19,7 +19,34 @@ use Rattle.namespace_model.specs.declared.denied.Refusal.{Refusal}
 use Rattle.namespace_model.specs.declared.op.Kind.{Kind}
 use Rattle.namespace_model.specs.declared.op.Kind.TheVariants.{File, Directory}
 
--- ---- the check of a node's permissions: read is 4, write is 2, execute is 1
+-- ---- permissions: each set of them is a number from 0 to 7
+
+abbrev pub execute : ℕ
+execute = 1
+
+abbrev pub write : ℕ
+write = 2
+
+abbrev pub write_execute : ℕ
+write_execute = 3
+
+abbrev pub read : ℕ
+read = 4
+
+abbrev pub read_execute : ℕ
+read_execute = 5
+
+abbrev pub read_write : ℕ
+read_write = 6
+
+abbrev pub all : ℕ
+all = 7
+
+-- what a check that compares no bits wants, and has
+abbrev pub no_bits : ℕ
+no_bits = 0
+
+-- ---- the check of a node's permissions
 
 abbrev pub is_superuser : Caller → Bool
 is_superuser caller = bytes_eq caller.id superuser
@@ -33,11 +60,11 @@ is_within want have = bit_and want have == want
 
 -- what an entry gives, and nothing where there is none
 abbrev pub bits_of : List (Who × ℕ) → Who → ℕ
-bits_of acl w = unwrap_or (find who_cmp w acl) 0
+bits_of acl w = unwrap_or (find who_cmp w acl) no_bits
 
 -- the bits that the mask leaves; a mask that is missing takes nothing away
 abbrev pub masked_by : List (Who × ℕ) → ℕ → ℕ
-masked_by acl bits = bit_and bits (unwrap_or (find who_cmp who.Mask acl) 7)
+masked_by acl bits = bit_and bits (unwrap_or (find who_cmp who.Mask acl) all)
 
 -- the entry is that of the owning group or of a named group, and the caller belongs to it
 abbrev pub is_of_group_of : Caller → List ℕ → Who → Bool
@@ -63,24 +90,23 @@ pub record Case : Type 0 where
   pub says : Result Unit Refusal
 
 -- The superuser is allowed all. The owner is judged by its own entry, without the mask. A named user is judged by its entry and the mask.
--- A group whose entry, cut by the mask, gives all that is wanted allows it. All others are judged by the entry of the others, without the
--- mask.
+-- A group whose entry, cut by the mask, gives all that is wanted allows it.
 abbrev pub cases : List (Who × ℕ) → List ℕ → List ℕ → Caller → ℕ → List Case
 cases acl owner group caller want =
     record { applies = is_superuser caller; says = Ok tt }
     ∷ record { applies = bytes_eq caller.id owner; says = judged rule.Owner want (bits_of acl who.Owner) }
     ∷ record { applies = is_some (find who_cmp (who.User caller.id) acl); says = judged rule.NamedUser want (masked_by acl (bits_of acl (who.User caller.id))) }
     ∷ record { applies = some_group_gives acl group caller want; says = Ok tt }
-    ∷ record { applies = true; says = judged rule.Other want (bits_of acl who.Other) }
     ∷ []
 
--- the first case that applies decides
-abbrev pub decided : List Case → Result Unit Refusal
-decided [] = Ok tt
-decided (c ∷ cs) = if c.applies then c.says else decided cs
+-- the first case that applies decides, and else the last word
+abbrev pub decided : List Case → Result Unit Refusal → Result Unit Refusal
+decided [] last = last
+decided (c ∷ cs) last = if c.applies then c.says else decided cs last
 
+-- whoever is in none of the cases is judged by the entry of the others, without the mask
 unfoldable pub access_check : List (Who × ℕ) → List ℕ → List ℕ → Caller → ℕ → Result Unit Refusal
-access_check acl owner group caller want = decided (cases acl owner group caller want)
+access_check acl owner group caller want = decided (cases acl owner group caller want) (judged rule.Other want (bits_of acl who.Other))
 
 -- ---- what is for owners and the superuser
 
@@ -106,16 +132,16 @@ may_set_group owner group new caller =
 
 -- the bits of one that the other leaves open
 abbrev pub open_bits : ℕ → ℕ → ℕ
-open_bits bits umask = bit_and bits (7 - umask)
+open_bits bits umask = bit_and bits (all - umask)
 
 -- 0777 for a directory and 0666 for a file
 abbrev pub usual_mode : Kind → ModeBits
-usual_mode Directory = record { sticky = false; owner = 7; group = 7; other = 7 }
-usual_mode File = record { sticky = false; owner = 6; group = 6; other = 6 }
+usual_mode Directory = record { sticky = false; owner = all; group = all; other = all }
+usual_mode File = record { sticky = false; owner = read_write; group = read_write; other = read_write }
 
 -- 0027
 abbrev pub usual_umask : ModeBits
-usual_umask = record { sticky = false; owner = 0; group = 2; other = 7 }
+usual_umask = record { sticky = false; owner = no_bits; group = write; other = all }
 
 -- the three entries of a mode, as far as the umask leaves it open
 abbrev pub open_entries : ModeBits → ModeBits → List (Who × ℕ)
@@ -124,7 +150,7 @@ open_entries p u =
 
 -- an entry keeps the bits alone that are also given
 abbrev pub cut_down : AclMap → Who → ℕ → AclMap
-cut_down m w bits = fin.insert m w (bit_and (unwrap_or (fin.get m w) 0) bits)
+cut_down m w bits = fin.insert m w (bit_and (unwrap_or (fin.get m w) no_bits) bits)
 
 -- a default ACL with the owner, the mask or else the owning group, and the others cut down to a mode
 abbrev pub cut_to_mode : AclMap → ModeBits → AclMap

@@ -1,18 +1,18 @@
 -- Make a file or a directory, and the directories that are missing on the way to it (Path - Create of the REST reference).
 use Rattle.std.specs.Prelude.{ℕ, not, ◌&&◌, List, [], ◌∷◌, ◌++◌, length, drop, map, Option, None, unwrap_or}
 use Rattle.acl_text.specs.declared.perm.ModeBits.{ModeBits}
-use Rattle.namespace_model.specs.declared.code.Code.TheVariants.{FilesystemNotFound, PathNotFound, ResourceTypeMismatch, DirectoryNotEmpty}
+use Rattle.namespace_model.specs.declared.code.Code.TheVariants.{FilesystemNotFound, ResourceTypeMismatch, DirectoryNotEmpty}
 use Rattle.namespace_model.specs.declared.op.Kind.{Kind}
 use Rattle.namespace_model.specs.declared.op.Kind.TheVariants.{File, Directory}
 use Rattle.namespace_model.specs.declared.request.Entry.{Entry}
 use Rattle.namespace_model.specs.Nodes.{Node, Content, directory, file, blank, is_directory, has_kind}
 use Rattle.namespace_model.specs.Trees.{Path, Tree, at, parent, is_bare}
 use Rattle.namespace_model.specs.Effects.{Put, stamp}
-use Rattle.namespace_model.specs.Access.{acl_inherit}
+use Rattle.namespace_model.specs.Access.{write_execute, acl_inherit}
 use Rattle.namespace_model.specs.Replies.{success, stamp_fields}
-use Rattle.namespace_model.specs.Outcomes.{Outcome, reading, refused, unless, noted, within}
-use Rattle.namespace_model.specs.Refusals.{caller_of, lacks, is_guarded, is_taken, is_unmet, is_unmet_without, refuse_if}
-use Rattle.namespace_model.specs.Walks.{way}
+use Rattle.namespace_model.specs.Outcomes.{Outcome, refused, unless, noted}
+use Rattle.namespace_model.specs.Refusals.{caller_of, lacks, is_guarded, exists_already, is_unmet, is_unmet_without, refuse_if}
+use Rattle.namespace_model.specs.Walks.{walk_or}
 
 -- what is asked for
 pub record Making : Type 0 where
@@ -72,7 +72,7 @@ made_below e m base x replaced = made e m base replaced (new_nodes e m x base (d
 abbrev pub create_over : Tree → Entry → Making → Node → Node → Outcome
 create_over t e m dir y =
     unless (is_guarded (caller_of e) dir m.path y)
-    (unless (is_taken e)
+    (unless (exists_already e)
     (unless (is_unmet e y)
     (unless (refuse_if (not (has_kind m.kind y)) ResourceTypeMismatch)
     (unless (refuse_if (is_directory y && not (is_bare t m.path)) DirectoryNotEmpty)
@@ -87,22 +87,21 @@ create_new e m base x =
 -- the parent is there
 abbrev pub create_in : Tree → Entry → Making → Node → Outcome
 create_in t e m dir =
-    unless (lacks (caller_of e) 3 (parent m.path) dir)
+    unless (lacks (caller_of e) write_execute (parent m.path) dir)
     (noted (at t m.path) m.path (create_new e m (parent m.path) dir) (create_over t e m dir))
 
 -- the last directory that is there is further up
 abbrev pub create_under : Entry → Making → Path → Node → Outcome
 create_under e m base x =
-    unless (lacks (caller_of e) 3 base x)
+    unless (lacks (caller_of e) write_execute base x)
     (create_new e m base x)
 
 -- a node on the way is missing behind this directory
-abbrev pub create_from : Tree → Entry → Making → Path → Outcome
-create_from t e m [] = refused FilesystemNotFound
-create_from t e m (fs ∷ names) = within (at t (fs ∷ names)) (refused PathNotFound) (create_under e m (fs ∷ names))
+abbrev pub create_from : Entry → Making → Path → Node → Outcome
+create_from e m [] x = refused FilesystemNotFound
+create_from e m (fs ∷ names) x = create_under e m (fs ∷ names) x
 
 unfoldable pub create : Tree → Entry → Making → Outcome
 create t e m =
-    reading ([] ∷ [])
-    (way t (caller_of e) (create_from t e m) ResourceTypeMismatch [] (parent m.path)
-    (within (at t (parent m.path)) (refused PathNotFound) (create_in t e m)))
+    walk_or t (caller_of e) (create_from e m) ResourceTypeMismatch m.path
+    (create_in t e m)

@@ -6,6 +6,7 @@ use Rattle.namespace_model.specs.declared.code.Code.TheVariants.{FilesystemAlrea
 use Rattle.namespace_model.specs.declared.request.Entry.{Entry}
 use Rattle.namespace_model.specs.Nodes.{Node, blank, directory}
 use Rattle.namespace_model.specs.Trees.{Path, Tree, at}
+use Rattle.namespace_model.specs.Access.{all, read_execute, no_bits}
 use Rattle.namespace_model.specs.Effects.{stamp}
 use Rattle.namespace_model.specs.Replies.{success, stamp_fields}
 use Rattle.namespace_model.specs.Outcomes.{Outcome, reading, unless}
@@ -13,7 +14,7 @@ use Rattle.namespace_model.specs.Refusals.{caller_of, is_no_superuser, refuse_if
 
 -- `rwxr-x---`
 abbrev pub root_access : AclPair
-root_access = record { access = (Owner, 7) ∷ (OwningGroup, 5) ∷ (Other, 0) ∷ []; default = None }
+root_access = record { access = (Owner, all) ∷ (OwningGroup, read_execute) ∷ (Other, no_bits) ∷ []; default = None }
 
 -- the root of a filesystem is the superuser's
 abbrev pub new_root : Option (List (List ℕ × List ℕ)) → Node

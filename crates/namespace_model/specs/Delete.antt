@@ -7,7 +7,8 @@ use Rattle.namespace_model.specs.declared.request.Entry.{Entry}
 use Rattle.namespace_model.specs.Nodes.{Node, is_directory}
 use Rattle.namespace_model.specs.Trees.{Path, Tree, at, parent, is_bare, children, subtree}
 use Rattle.namespace_model.specs.Replies.{success}
-use Rattle.namespace_model.specs.Outcomes.{Outcome, reading, refused, unless, noted, within}
+use Rattle.namespace_model.specs.Access.{write_execute, all}
+use Rattle.namespace_model.specs.Outcomes.{Outcome, reading, refused, unless, noted}
 use Rattle.namespace_model.specs.Refusals.{caller_of, lacks, is_guarded, is_unmet, lease_refuses, refuse_if, or_else, first_refusal}
 use Rattle.namespace_model.specs.Walks.{walk, missing_code}
 
@@ -16,7 +17,7 @@ use Rattle.namespace_model.specs.Walks.{walk, missing_code}
 -- all three rights on a directory that isn't empty, and then the sticky rule for each child
 abbrev pub not_clearable : Tree → Caller → Path → Node → Option Reply
 not_clearable t caller p x =
-    if is_directory x && not (is_bare t p) then or_else (lacks caller 7 p x) (first_refusal (is_guarded caller x) t (children t p)) else None
+    if is_directory x && not (is_bare t p) then or_else (lacks caller all p x) (first_refusal (is_guarded caller x) t (children t p)) else None
 
 -- ---- the steps
 
@@ -48,10 +49,10 @@ delete_node t e p recursive dir x =
 
 abbrev pub delete_in : Tree → Entry → Path → Bool → Node → Outcome
 delete_in t e p recursive dir =
-    unless (lacks (caller_of e) 3 (parent p) dir)
+    unless (lacks (caller_of e) write_execute (parent p) dir)
     (noted (at t p) p (refused (missing_code p PathNotFound)) (delete_node t e p recursive dir))
 
 unfoldable pub delete : Tree → Entry → Path → Bool → Outcome
 delete t e p recursive =
     walk t (caller_of e) PathNotFound p
-    (within (at t (parent p)) (refused PathNotFound) (delete_in t e p recursive))
+    (delete_in t e p recursive)

@@ -1,35 +1,30 @@
 -- Take what is staged below a position into a file (Path - Update with action=flush of the REST reference).
-use Rattle.std.specs.Prelude.{ℕ, Bool, Option, Some, None, Result, Ok, Err}
-use Rattle.file_data.specs.declared.fault.DataFault.{DataFault}
+use Rattle.std.specs.Prelude.{ℕ, Bool}
 use Rattle.file_data.specs.FileRecord.{flush_answer, flushed}
 use Rattle.lease_state.specs.LeaseTable.{lease_after_write}
-use Rattle.namespace_model.specs.declared.code.Code.TheVariants.{ResourceTypeMismatch, InvalidFlushPosition}
-use Rattle.namespace_model.specs.declared.reply.Reply.{Reply}
+use Rattle.namespace_model.specs.declared.code.Code.TheVariants.{ResourceTypeMismatch}
 use Rattle.namespace_model.specs.declared.request.Entry.{Entry}
+use Rattle.namespace_model.specs.Contents.{data_of, content_of, refused_flush}
 use Rattle.namespace_model.specs.Nodes.{Node, is_directory}
 use Rattle.namespace_model.specs.Trees.{Path, Tree}
 use Rattle.namespace_model.specs.Effects.{stamp}
-use Rattle.namespace_model.specs.Replies.{refusal, success, stamp_fields}
+use Rattle.namespace_model.specs.Replies.{success, stamp_fields}
+use Rattle.namespace_model.specs.Access.{read_write}
 use Rattle.namespace_model.specs.Outcomes.{Outcome, edited, unless}
 use Rattle.namespace_model.specs.Refusals.{caller_of, lacks, is_unmet, lease_refuses, refuse_if}
 use Rattle.namespace_model.specs.Looks.{found}
-use Rattle.namespace_model.specs.Append.{data_of, file_of}
-
-abbrev pub refused_flush : Result Unit DataFault → Option Reply
-refused_flush (Ok allowed) = None
-refused_flush (Err f) = Some (refusal InvalidFlushPosition)
 
 -- the file is stamped, also where the position is its length
 abbrev pub flushed_to : Entry → Path → ℕ → Bool → Node → Outcome
 flushed_to e p position retain x =
     edited p (stamp e.moment (record x {
-      content = file_of (flushed (data_of x.content) position retain);
+      content = content_of (flushed (data_of x.content) position retain);
       lease = lease_after_write x.lease e.moment;
     })) (success 200 (stamp_fields e.moment))
 
 abbrev pub flush_node : Entry → Path → ℕ → Bool → Node → Outcome
 flush_node e p position retain x =
-    unless (lacks (caller_of e) 6 p x)
+    unless (lacks (caller_of e) read_write p x)
     (unless (refuse_if (is_directory x) ResourceTypeMismatch)
     (unless (is_unmet e x)
     (unless (lease_refuses e e.request.lease x)

@@ -13,6 +13,7 @@ use Rattle.namespace_model.specs.Nodes.{Node}
 use Rattle.namespace_model.specs.Trees.{Path, Tree}
 use Rattle.namespace_model.specs.Effects.{keep}
 use Rattle.namespace_model.specs.Replies.{success, node_fields}
+use Rattle.namespace_model.specs.Access.{write}
 use Rattle.namespace_model.specs.Outcomes.{Outcome, edited, refused, unless}
 use Rattle.namespace_model.specs.Refusals.{caller_of, lacks, is_unmet, code_of_fault}
 use Rattle.namespace_model.specs.Looks.{found}
@@ -47,7 +48,7 @@ lease_put e p a x (Ok new) =
 
 abbrev pub lease_node : Entry → Path → LeaseAction → Node → Outcome
 lease_node e p a x =
-    unless (lacks (caller_of e) 2 p x)
+    unless (lacks (caller_of e) write p x)
     (unless (is_unmet e x)
     (lease_put e p a x (lease_act x.lease a e.moment)))
 

@@ -6,6 +6,7 @@ pub mod Replies
 pub mod Outcomes
 pub mod Access
 pub mod Refusals
+pub mod Ways
 pub mod Walks
 pub mod Looks
 pub mod Pages
@@ -22,6 +23,7 @@ pub mod ReadFile
 pub mod GetProperties
 pub mod GetAccess
 pub mod CheckAccess
+pub mod Contents
 pub mod Append
 pub mod Flush
 pub mod SetProperties
@@ -30,7 +32,6 @@ pub mod SetAccessRecursive
 pub mod LeaseNode
 pub mod Step
 pub mod Sound
-pub mod Built
 pub mod Locality
 pub mod Denials
 pub mod Quiet
@@ -38,4 +39,8 @@ pub mod Shapes
 pub mod Stamps
 pub mod Renames
 pub mod PageRuns
+pub mod DenialPlaces
+pub mod Lines
+pub mod Told
+pub mod NamedNodes
 pub mod Worked

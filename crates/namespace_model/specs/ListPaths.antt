@@ -11,6 +11,7 @@ use Rattle.namespace_model.specs.Nodes.{Node, is_directory, bytes_in}
 use Rattle.namespace_model.specs.Trees.{Path, Tree, node_at, keys_where, is_child, is_below}
 use Rattle.namespace_model.specs.Pages.{Page, page_of, above, on_the_way}
 use Rattle.namespace_model.specs.Replies.{with_body, page_fields, etag_in_body, date_in_body, name_in_body}
+use Rattle.namespace_model.specs.Access.{read_execute}
 use Rattle.namespace_model.specs.Outcomes.{Outcome, reading, answered, unless}
 use Rattle.namespace_model.specs.Refusals.{caller_of, lacks, refuse_if, first_refusal}
 use Rattle.namespace_model.specs.Looks.{found}
@@ -57,7 +58,7 @@ list_page t dir recursive token max = page_of max (above token (listing t dir re
 
 -- a directory that the caller may not read and execute
 abbrev pub is_closed : Caller → Path → Node → Option Reply
-is_closed caller p x = if is_directory x then lacks caller 5 p x else None
+is_closed caller p x = if is_directory x then lacks caller read_execute p x else None
 
 abbrev pub listed : Tree → Path → Page → Outcome
 listed t dir page = answered (with_body 200 (page_fields (slice_get dir 0) page.next) (paths_body t page.paths))
@@ -77,7 +78,7 @@ paged t e dir false token page = reading page.paths (listed t dir page)
 abbrev pub list_node : Tree → Entry → Path → Bool → Option Path → ℕ → Node → Outcome
 list_node t e dir recursive token max x =
     unless (refuse_if (not (is_directory x)) ResourceTypeMismatch)
-    (unless (lacks (caller_of e) 5 dir x)
+    (unless (lacks (caller_of e) read_execute dir x)
     (paged t e dir recursive token (list_page t dir recursive token max)))
 
 unfoldable pub list_paths : Tree → Entry → Path → Bool → Option Path → ℕ → Outcome

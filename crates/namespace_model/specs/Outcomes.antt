@@ -41,11 +41,6 @@ abbrev pub noted : Option Node → Path → Outcome → (Node → Outcome) → O
 noted None p none some = none
 noted (Some x) p none some = reading (p ∷ []) (some x)
 
--- It goes on with a node that was read before.
-abbrev pub within : Option Node → Outcome → (Node → Outcome) → Outcome
-within None none some = none
-within (Some x) none some = some x
-
 -- One node is put in its own place, with a reply.
 abbrev pub edited : Path → Put → Reply → Outcome
 edited p put reply = record {

@@ -10,6 +10,7 @@ use Rattle.namespace_model.specs.declared.request.Entry.{Entry}
 use Rattle.namespace_model.specs.Nodes.{Node, is_directory, bytes_in}
 use Rattle.namespace_model.specs.Trees.{Path, Tree}
 use Rattle.namespace_model.specs.Replies.{with_body, node_fields, property_fields, lease_fields}
+use Rattle.namespace_model.specs.Access.{read}
 use Rattle.namespace_model.specs.Outcomes.{Outcome, answered, unless}
 use Rattle.namespace_model.specs.Refusals.{caller_of, lacks, is_unmet_look, refuse_if}
 use Rattle.namespace_model.specs.Looks.{found}
@@ -39,7 +40,7 @@ bytes_read e x bytes (Some range) =
 
 abbrev pub read_node : Entry → Path → Option Range → Node → Outcome
 read_node e p range x =
-    unless (lacks (caller_of e) 4 p x)
+    unless (lacks (caller_of e) read p x)
     (unless (refuse_if (is_directory x) ResourceTypeMismatch)
     (unless (is_unmet_look e x)
     (bytes_read e x (bytes_in x.content) range)))

@@ -18,7 +18,7 @@ use Rattle.namespace_model.specs.declared.request.Entry.{Entry}
 use Rattle.namespace_model.specs.Nodes.{Node}
 use Rattle.namespace_model.specs.Trees.{Path, Tree, node_at}
 use Rattle.namespace_model.specs.Replies.{refusal, not_modified, denial}
-use Rattle.namespace_model.specs.Access.{access_check, is_superuser, sticky_lets, may_set_access, may_set_owner, may_set_group}
+use Rattle.namespace_model.specs.Access.{access_check, no_bits, is_superuser, sticky_lets, may_set_access, may_set_owner, may_set_group}
 
 -- who stands for a request without a caller, which is refused before anything is asked
 abbrev pub nobody : Caller
@@ -43,7 +43,7 @@ refuse_if false c = None
 
 abbrev pub deny_unless : Bool → Rule → Path → Option Reply
 deny_unless true r p = None
-deny_unless false r p = Some (denial r p 0 0)
+deny_unless false r p = Some (denial r p no_bits no_bits)
 
 -- ---- rights
 
@@ -108,8 +108,8 @@ abbrev pub is_unmet_without : Entry → Option Reply
 is_unmet_without e = unmet_for_change (conditions_of e.request.cond None)
 
 -- If-None-Match is `*`, which is asked where the node is there
-abbrev pub is_taken : Entry → Option Reply
-is_taken e = refuse_if (option_map_or (λ tags. tags.any) e.request.cond.none false) code.PathAlreadyExists
+abbrev pub exists_already : Entry → Option Reply
+exists_already e = refuse_if (option_map_or (λ tags. tags.any) e.request.cond.none false) code.PathAlreadyExists
 
 -- ---- leases
 

@@ -7,8 +7,9 @@ use Rattle.namespace_model.specs.Nodes.{Node, is_directory, kind_of, has_kind}
 use Rattle.namespace_model.specs.Trees.{Path, Tree, at, parent, is_bare, subtree}
 use Rattle.namespace_model.specs.Effects.{stamp, moved}
 use Rattle.namespace_model.specs.Replies.{success, stamp_fields}
-use Rattle.namespace_model.specs.Outcomes.{Outcome, reading, refused, unless, noted, within}
-use Rattle.namespace_model.specs.Refusals.{caller_of, lacks, is_guarded, is_taken, is_unmet, is_unmet_without, lease_refuses, refuse_if}
+use Rattle.namespace_model.specs.Access.{write_execute}
+use Rattle.namespace_model.specs.Outcomes.{Outcome, reading, refused, unless, noted}
+use Rattle.namespace_model.specs.Refusals.{caller_of, lacks, is_guarded, exists_already, is_unmet, is_unmet_without, lease_refuses, refuse_if}
 use Rattle.namespace_model.specs.Walks.{walk, missing_code}
 
 -- what is asked for
@@ -63,7 +64,7 @@ fitted t e m x replaced =
 abbrev pub rename_over : Tree → Entry → Moving → Node → Node → Node → Outcome
 rename_over t e m x dir y =
     unless (is_guarded (caller_of e) dir m.path y)
-    (unless (is_taken e)
+    (unless (exists_already e)
     (unless (is_unmet e y)
     (unless (lease_refuses e e.request.source_lease x)
     (unless (refuse_if (not (has_kind (kind_of x) y)) ResourceTypeMismatch)
@@ -79,21 +80,21 @@ rename_new t e m x =
 
 abbrev pub rename_into : Tree → Entry → Moving → Node → Node → Outcome
 rename_into t e m x dir =
-    unless (lacks (caller_of e) 3 (parent m.path) dir)
+    unless (lacks (caller_of e) write_execute (parent m.path) dir)
     (noted (at t m.path) m.path (rename_new t e m x) (rename_over t e m x dir))
 
 abbrev pub rename_node : Tree → Entry → Moving → Node → Node → Outcome
 rename_node t e m dir x =
     unless (is_guarded (caller_of e) dir m.source x)
     (walk t (caller_of e) RenameDestinationParentPathNotFound m.path
-    (within (at t (parent m.path)) (refused RenameDestinationParentPathNotFound) (rename_into t e m x)))
+    (rename_into t e m x))
 
 abbrev pub rename_out : Tree → Entry → Moving → Node → Outcome
 rename_out t e m dir =
-    unless (lacks (caller_of e) 3 (parent m.source) dir)
+    unless (lacks (caller_of e) write_execute (parent m.source) dir)
     (noted (at t m.source) m.source (refused (missing_code m.source SourcePathNotFound)) (rename_node t e m dir))
 
 unfoldable pub rename : Tree → Entry → Moving → Outcome
 rename t e m =
     walk t (caller_of e) SourcePathNotFound m.source
-    (within (at t (parent m.source)) (refused SourcePathNotFound) (rename_out t e m))
+    (rename_out t e m)

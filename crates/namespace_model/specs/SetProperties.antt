@@ -6,6 +6,7 @@ use Rattle.namespace_model.specs.Nodes.{Node}
 use Rattle.namespace_model.specs.Trees.{Path, Tree}
 use Rattle.namespace_model.specs.Effects.{stamp}
 use Rattle.namespace_model.specs.Replies.{success, stamp_fields}
+use Rattle.namespace_model.specs.Access.{write}
 use Rattle.namespace_model.specs.Outcomes.{Outcome, edited, unless}
 use Rattle.namespace_model.specs.Refusals.{caller_of, lacks, is_unmet, lease_refuses}
 use Rattle.namespace_model.specs.Looks.{found}
@@ -16,7 +17,7 @@ properties_set e p props x =
 
 abbrev pub set_properties_of : Entry → Path → List (List ℕ × List ℕ) → Node → Outcome
 set_properties_of e p props x =
-    unless (lacks (caller_of e) 2 p x)
+    unless (lacks (caller_of e) write p x)
     (unless (is_unmet e x)
     (unless (lease_refuses e e.request.lease x)
     (properties_set e p props x)))

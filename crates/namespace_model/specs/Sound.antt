@@ -8,6 +8,9 @@ use Rattle.acl_text.specs.AclTexts.{NoneRepeats, same_entry, same_item}
 use Rattle.head_text.specs.declared.range.Range.{Range}
 use Rattle.lease_state.specs.declared.lease.LeaseAction.{LeaseAction}
 use Rattle.lease_state.specs.declared.lease.LeaseAction.TheVariants.{Acquire, Renew, Change, Release, Break}
+use Rattle.lease_state.specs.declared.lease.AppendLease.{AppendLease}
+use Rattle.lease_state.specs.declared.lease.AppendLease.TheVariants as append
+use Rattle.lease_state.specs.LeaseAppends.{NeedsId}
 use Rattle.path_text.specs.Paths.{is_prefix}
 use Rattle.path_text.specs.Texts.{KeepsLimits}
 use Rattle.namespace_model.specs.declared.caller.Caller.{Caller}
@@ -105,6 +108,14 @@ IsLeaseAction (Change id new) = ⊤
 IsLeaseAction (Release id) = ⊤
 IsLeaseAction (Break period) = IfSome period (λ secs. secs ≤ 60)
 
+-- the lease action of an append; one that releases is an append that flushes
+abbrev pub IsAppendLease : AppendLease → Bool → Type 0
+IsAppendLease append.Plain flush = ⊤
+IsAppendLease (append.Acquire id secs) flush = IfSome secs IsLeaseDuration
+IsAppendLease append.AutoRenew flush = ⊤
+IsAppendLease append.Release flush = flush ≡ true
+IsAppendLease (append.AcquireRelease id secs) flush = IfSome secs IsLeaseDuration × (flush ≡ true)
+
 -- a code that decoding gives; the others come from the namespace
 abbrev pub is_of_decoding : Code → Bool
 is_of_decoding code.InvalidUri = true
@@ -145,7 +156,8 @@ IsOperation (op.Read path range) body = IsBelowRoot path × IfSome range IsRange
 IsOperation (op.GetProperties path status) body = IsInFilesystem path
 IsOperation (op.GetAccess path) body = IsInFilesystem path
 IsOperation (op.CheckAccess path want) body = IsInFilesystem path
-IsOperation (op.Append path position) body = IsBelowRoot path × IsPosition position × (1 ≤ body)
+IsOperation (op.Append path position flush retain action) body =
+    IsBelowRoot path × IsPosition position × IsAppendLease action flush × (1 ≤ body)
 IsOperation (op.Flush path position retain) body = IsBelowRoot path × IsPosition position × (body ≡ 0)
 IsOperation (op.SetProperties path props) body = IsInFilesystem path
 IsOperation (op.SetAccess path owner group permissions acl) body = IsInFilesystem path × IsSetting owner group permissions acl
@@ -160,6 +172,12 @@ abbrev pub HasCaller : Op → Option Caller → Type 0
 HasCaller (op.Refused code) caller = ⊤
 HasCaller other caller = IsCaller caller
 
+-- an append that renews or releases a lease gives its id
+abbrev pub HasLeaseId : Op → Option ℕ → Type 0
+HasLeaseId (op.Append path position flush retain action) given = NeedsId action → IsSome given
+HasLeaseId other given = ⊤
+
 pub record IsSound (request : Request) : Type 0 where
   pub caller : HasCaller request.op request.caller
+  pub lease : HasLeaseId request.op request.lease
   pub operation : IsOperation request.op (length request.body)

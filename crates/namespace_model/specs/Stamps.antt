@@ -17,7 +17,7 @@ IsPutBy (op.CreateFilesystem path props) fresh written p = Among p fresh
 IsPutBy (op.SetFilesystem path props) fresh written p = p ≡ root_of path
 IsPutBy (op.Create path kind permissions umask props) fresh written p = Among p fresh
 IsPutBy (op.Rename path source props) fresh written p = p ≡ source
-IsPutBy (op.Append path position) fresh written p = p ≡ path
+IsPutBy (op.Append path position flush retain action) fresh written p = p ≡ path
 IsPutBy (op.Flush path position retain) fresh written p = p ≡ path
 IsPutBy (op.SetProperties path props) fresh written p = p ≡ path
 IsPutBy (op.SetAccess path owner group permissions acl) fresh written p = p ≡ path
@@ -25,9 +25,9 @@ IsPutBy (op.SetAccessRecursive path change token max force) fresh written p = Am
 IsPutBy (op.Lease path action) fresh written p = p ≡ path
 IsPutBy other fresh written p = ⊥
 
--- whether an operation stamps what it puts: an append and a lease call don't
+-- whether an operation stamps what it puts: a lease call doesn't, and an append only where it flushes
 abbrev pub stamps : Op → Bool
-stamps (op.Append path position) = false
+stamps (op.Append path position flush retain action) = flush
 stamps (op.Lease path action) = false
 stamps other = true
 

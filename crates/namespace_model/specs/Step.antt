@@ -7,8 +7,7 @@ use Rattle.namespace_model.specs.declared.request.Entry.{Entry}
 use Rattle.namespace_model.specs.declared.reply.Reply.{Reply}
 use Rattle.namespace_model.specs.Trees.{Path, Tree, opening_tree}
 use Rattle.namespace_model.specs.Effects.{effected}
-use Rattle.namespace_model.specs.Outcomes.{Outcome, refused, without_repeats}
-use Rattle.namespace_model.specs.Outcomes as o
+use Rattle.namespace_model.specs.Outcomes.{Outcome, touched, refused, without_repeats}
 use Rattle.namespace_model.specs.ListFilesystems.{list_filesystems}
 use Rattle.namespace_model.specs.CreateFilesystem.{create_filesystem}
 use Rattle.namespace_model.specs.GetFilesystem.{get_filesystem}
@@ -49,7 +48,8 @@ acts t e (op.Read path range) = read_file t e path range
 acts t e (op.GetProperties path status) = get_properties t e path status
 acts t e (op.GetAccess path) = get_access t e path
 acts t e (op.CheckAccess path want) = check_access t e path want
-acts t e (op.Append path position) = append t e path position
+acts t e (op.Append path position flush retain action) =
+    append t e path (record { position = position; flush = flush; retain = retain; action = action })
 acts t e (op.Flush path position retain) = flush t e path position retain
 acts t e (op.SetProperties path props) = set_properties t e path props
 acts t e (op.SetAccess path owner group permissions acl) =
@@ -72,8 +72,8 @@ unfoldable pub outcome : Tree → Entry → Outcome
 outcome t e = without_repeats (with_close e.request.close (acts t e e.request.op))
 
 -- the paths that an entry reads and writes
-abbrev pub touched : Tree → Entry → List Path
-touched t e = o.touched (outcome t e)
+abbrev pub touched_paths : Tree → Entry → List Path
+touched_paths t e = touched (outcome t e)
 
 -- the paths of the nodes that an entry makes, from the top
 abbrev pub new_paths : Tree → Entry → List Path
@@ -102,8 +102,8 @@ replies_from t number (e ∷ es) = (step t e number).reply ∷ replies_from (ste
 
 -- The run of a journal starts from the opening tree, and its first entry has the number 1: the tree that it leaves, and
 -- its reply at each place.
-unfoldable pub tree_of : List Entry → Tree
-tree_of journal = tree_from opening_tree 1 journal
+unfoldable pub tree_after : List Entry → Tree
+tree_after journal = tree_from opening_tree 1 journal
 
 unfoldable pub replies_of : List Entry → List Reply
 replies_of journal = replies_from opening_tree 1 journal

@@ -3,19 +3,23 @@ use Rattle.std.specs.Prelude.{◌≡◌, ℕ, true, false, List, [], ◌∷◌, 
 use Rattle.acl_text.specs.Ids.{superuser}
 use Rattle.acl_text.specs.declared.who.Who.{Who}
 use Rattle.acl_text.specs.declared.who.Who.TheVariants as who
+use Rattle.head_text.specs.declared.conditions.Conditions.{Conditions}
+use Rattle.lease_state.specs.declared.lease.AppendLease.TheVariants as append
 use Rattle.lease_state.specs.declared.lease.Lease.TheVariants as lease
 use Rattle.namespace_model.specs.declared.code.Code.TheVariants as code
 use Rattle.namespace_model.specs.declared.denied.Rule.TheVariants as rule
 use Rattle.namespace_model.specs.declared.op.Op.{Op}
 use Rattle.namespace_model.specs.declared.op.Op.TheVariants as op
 use Rattle.namespace_model.specs.declared.request.Entry.{Entry}
-use Rattle.namespace_model.specs.Built.{no_conditions}
 use Rattle.namespace_model.specs.Nodes.{Node, blank, directory, file}
 use Rattle.namespace_model.specs.Trees.{Path, Tree, at, keys_where, is_child}
 use Rattle.namespace_model.specs.Replies.{refusal, denial, success, stamp_fields}
 use Rattle.namespace_model.specs.declared.op.Kind.TheVariants.{Directory}
 use Rattle.namespace_model.specs.Effects.{Put}
 use Rattle.namespace_model.specs.Step.{outcome}
+
+abbrev pub no_conditions : Conditions
+no_conditions = record { matches = None; none = None; modified = None; unmodified = None }
 
 -- an entry at a moment of a caller without groups, with an empty body
 abbrev pub asked_at : ℕ → List ℕ → Op → Entry
@@ -25,6 +29,10 @@ asked_at moment caller operation = record {
   moment = moment;
   request = record { caller = Some (record { id = caller; groups = [] }); op = operation; cond = no_conditions; lease = None; source_lease = None; head = false; close = false; body = [] };
 }
+
+-- the same with these bytes behind its head
+abbrev pub with_bytes : List ℕ → Entry → Entry
+with_bytes bytes e = record e { request = record e.request { body = bytes } }
 
 abbrev pub data_root : Path
 data_root = codes "data" ∷ []
@@ -108,3 +116,28 @@ abbrev pub ADirectoryThatIsNotEmptyStays : Type 0
 ADirectoryThatIsNotEmptyStays =
     (t : Tree) → at t data_root ≡ Some open_root → at t (in_data (codes "a")) ≡ Some open_root → keys_where t (is_child (in_data (codes "a"))) ≡ (codes "data" ∷ codes "a" ∷ codes "f" ∷ []) ∷ []
     → (outcome t (asked_at 0 superuser (op.Delete (in_data (codes "a")) false))).reply ≡ refusal code.DirectoryNotEmpty
+
+-- `!` at 7 of an empty file leaves a gap, and nothing is staged
+abbrev pub AnAppendThatFlushesFillsNoGap : Type 0
+AnAppendThatFlushesFillsNoGap =
+    (t : Tree) → at t data_root ≡ Some open_root → at t (in_data (codes "x")) ≡ Some blank
+    → (outcome t (with_bytes (codes "!") (asked_at 0 superuser (op.Append (in_data (codes "x")) 7 true false append.Plain)))).reply ≡ refusal code.InvalidFlushPosition
+
+-- `hello` at 0 of an empty file is in the file at once, which is stamped
+abbrev pub AnAppendMayFlush : Type 0
+AnAppendMayFlush =
+    (t : Tree) → at t data_root ≡ Some open_root → at t (in_data (codes "x")) ≡ Some blank
+    → (outcome t (with_bytes (codes "hello") (asked_at 5 superuser (op.Append (in_data (codes "x")) 0 true false append.Plain)))).effect.puts
+    ≡ (in_data (codes "x"), record { node = record blank { content = file (codes "hello") []; moment = 5 }; stamped = true }) ∷ []
+
+-- an append takes the lease 170 for 15 seconds from 1,000 on, answers its id, and stamps nothing
+abbrev pub AnAppendMayTakeALease : Type 0
+AnAppendMayTakeALease =
+    (t : Tree) → at t data_root ≡ Some open_root → at t (in_data (codes "l")) ≡ Some blank
+    → (outcome t (with_bytes (codes "a") (asked_at 1000 superuser (op.Append (in_data (codes "l")) 0 false false (append.Acquire 170 (Some 15)))))).effect.puts
+    ≡ (in_data (codes "l"), record { node = record blank { content = file [] ((0, codes "a") ∷ []); lease = lease.Leased 170 (Some 15) 16000 }; stamped = false }) ∷ []
+
+abbrev pub AnAppendIsKeptOutByALease : Type 0
+AnAppendIsKeptOutByALease =
+    (t : Tree) → at t data_root ≡ Some open_root → at t (in_data (codes "l")) ≡ Some leased_file
+    → (outcome t (with_bytes (codes "a") (asked_at 2000 superuser (op.Append (in_data (codes "l")) 0 false false append.Plain)))).reply ≡ refusal code.LeaseIdMissing

@@ -1,4 +1,4 @@
-ghost use Rattle.std.specs.Prelude.{◌≡◌, ℕ, suc, Bool, List, ◌∷◌, Option, Some, None, IsSome};
+ghost use Rattle.std.specs.Prelude.{◌≡◌, ◌≤◌, ℕ, suc, Bool, true, List, [], ◌∷◌, length, Option, Some, None, IsSome};
 ghost use Rattle.std.specs.declared.cmp.Ordering.TheVariants.{Less};
 ghost use Rattle.path_text.specs.Paths.{path_cmp};
 ghost use Rattle.namespace_model.specs.declared.op.BatchChange.{BatchChange};
@@ -7,12 +7,16 @@ ghost use Rattle.namespace_model.specs.Nodes.{Node};
 ghost use Rattle.namespace_model.specs.PageRuns.{Course, course_of, page_at, IsFollowed, followed_paths};
 ghost use Rattle.namespace_model.specs.Renames.{IsRenamed};
 ghost use Rattle.namespace_model.specs.Stamps.{HasRightStamp, StampsRightly};
-ghost use Rattle.namespace_model.specs.Worked.{AFilesystemIsMadeByTheSuperuserAlone, TheMaskLimitsANamedUser, TheOwnerIsJudgedByItsEntry, AStickyDirectoryGuardsItsChildren, AFlushFillsNoGap, ARangeIsCutToTheLastByte, ALeaseKeepsAWriterOutUntilItsEnd, ALeaseThatHasComeToItsEndLetsItIn, TheUmaskRestrictsNewNodes, ADirectoryThatIsNotEmptyStays};
+ghost use Rattle.namespace_model.specs.Worked.{AFilesystemIsMadeByTheSuperuserAlone, TheMaskLimitsANamedUser, TheOwnerIsJudgedByItsEntry, AStickyDirectoryGuardsItsChildren, AFlushFillsNoGap, ARangeIsCutToTheLastByte, ALeaseKeepsAWriterOutUntilItsEnd, ALeaseThatHasComeToItsEndLetsItIn, TheUmaskRestrictsNewNodes, ADirectoryThatIsNotEmptyStays, AnAppendThatFlushesFillsNoGap, AnAppendMayFlush, AnAppendMayTakeALease, AnAppendIsKeptOutByALease};
 ghost use Rattle.namespace_model.specs.declared.request.Entry.{Entry};
-ghost use Rattle.namespace_model.specs.Trees.{Path, Tree, at, IsTree};
+ghost use Rattle.namespace_model.specs.Trees.{Path, Tree, at, IsDirectoryAt, IsTree};
 ghost use Rattle.namespace_model.specs.Locality.{Among, IsLocal, IsClosed};
 ghost use Rattle.namespace_model.specs.Quiet.{IsQuiet};
+ghost use Rattle.namespace_model.specs.DenialPlaces.{DeniesInPlace};
 ghost use Rattle.namespace_model.specs.Denials.{DeniesRightly, NamesDenials};
+ghost use Rattle.namespace_model.specs.Lines.{AreInOrder, open_tags};
+ghost use Rattle.namespace_model.specs.NamedNodes.{PutsNamed};
+ghost use Rattle.namespace_model.specs.Told.{AreTold, told_of};
 ghost use Rattle.namespace_model.specs.Shapes.{IsShaped, KeepsOthers};
 ghost use Rattle.namespace_model.specs.Sound.{IsSound};
 ghost use Rattle.namespace_model.specs.Step.{outcome, step};
@@ -35,10 +39,10 @@ pub fn refusals_change_nothing()
 {}
 
 /// A reply has the status 403 exactly where it names a denial, and what a denial names is that of the deciding case on the tree before the
-/// step.
+/// step. Of the map nothing more is asked for that than that the account is a directory.
 pub fn denials_name_their_rule()
     ensures named { (t : Tree) (e : Entry) → IsSound e.request → NamesDenials (outcome t e).reply }
-    ensures right { (t : Tree) (e : Entry) → DeniesRightly t e (outcome t e).reply }
+    ensures right { (t : Tree) (e : Entry) → IsDirectoryAt t [] → DeniesRightly t e (outcome t e).reply }
 {}
 
 /// What a step takes away, puts, makes and moves is written, lies on the tree as it has to, and leaves a tree whose paths keep the limits.
@@ -71,7 +75,38 @@ pub fn pages_cover_their_course()
         → e.request.op ≡ op.SetAccessRecursive path change (Some token) max force → (q : Path) → Among q (outcome t e).written → path_cmp token q ≡ Less }
 {}
 
-/// Steps of worked conversations, from seven operations.
+/// A denial is at a place where the operation asks, and wants what is wanted there: for a call on filesystems the account or the root; for a
+/// check a directory on the way with execute, the directory of what is made, moved or deleted with write and execute, the node with the
+/// operation's bits, a directory of a page or of a subtree with its bits; and for the other rules the node. No other place and no other want.
+pub fn denials_are_in_place()
+    ensures { (t : Tree) (e : Entry) → DeniesInPlace t e (outcome t e).reply }
+{}
+
+/// The lines of a reply ascend by their places in the list of all lines, so none comes twice, and an ETag is open at most once.
+pub fn lines_are_in_order()
+    ensures order { (t : Tree) (e : Entry) → AreInOrder (outcome t e).reply.fields }
+    ensures tags { (t : Tree) (e : Entry) → open_tags (outcome t e).reply.fields ≤ 1 }
+{}
+
+/// An entry makes at most 60 nodes, whatever its operation.
+pub fn new_nodes_are_few()
+    ensures { (t : Tree) (e : Entry) → IsSound e.request → length (outcome t e).fresh ≤ 60 }
+{}
+
+/// What a reply tells is so after the step: the node at its path has the number of the ETag, the entry's own where it is left
+/// open, and the moment of Last-Modified.
+pub fn replies_tell_what_is()
+    ensures { (t : Tree) (e : Entry) (number : ℕ) → IsTree t → IsSound e.request
+        → AreTold (step t e number).tree number (told_of e.request.op) (step t e number).reply.fields }
+{}
+
+/// Where a reply has no code, each node that the operation stamps is put: the node that it names, each new one, each that a batch changes.
+/// After the step it stands there with the entry's number and moment.
+pub fn successes_put_what_is_named()
+    ensures { (t : Tree) (e : Entry) (number : ℕ) → IsTree t → IsSound e.request → (step t e number).reply.code ≡ None → PutsNamed t e number (step t e number).tree }
+{}
+
+/// Steps of worked conversations, from eight operations.
 pub fn worked_steps()
     ensures a_filesystem_is_made_by_the_superuser_alone { AFilesystemIsMadeByTheSuperuserAlone }
     ensures the_mask_limits_a_named_user { TheMaskLimitsANamedUser }
@@ -83,4 +118,8 @@ pub fn worked_steps()
     ensures a_lease_that_has_come_to_its_end_lets_it_in { ALeaseThatHasComeToItsEndLetsItIn }
     ensures the_umask_restricts_new_nodes { TheUmaskRestrictsNewNodes }
     ensures a_directory_that_is_not_empty_stays { ADirectoryThatIsNotEmptyStays }
+    ensures an_append_that_flushes_fills_no_gap { AnAppendThatFlushesFillsNoGap }
+    ensures an_append_may_flush { AnAppendMayFlush }
+    ensures an_append_may_take_a_lease { AnAppendMayTakeALease }
+    ensures an_append_is_kept_out_by_a_lease { AnAppendIsKeptOutByALease }
 {}

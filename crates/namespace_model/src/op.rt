@@ -4,7 +4,7 @@ use super::code::Code;
 use acl_text::{AclList, Id, ModeBits, Perm, RemoveList};
 use file_data::Piece;
 use head_text::{Props, Range};
-use lease_state::LeaseAction;
+use lease_state::{AppendLease, LeaseAction};
 use path_text::Path;
 use std::alloc::{AllocError, Global};
 
@@ -107,10 +107,14 @@ pub enum Op {
         path: Path,
         want: Perm,
     },
-    /// Stage the body at a position of a file.
+    /// Stage the body at a position of a file. With `flush` what is staged up to its end is then taken into the file, and what is staged behind
+    /// it is kept where `retain` is true. `action` is what is done with the lease.
     Append {
         path: Path,
         position: u64,
+        flush: bool,
+        retain: bool,
+        action: AppendLease,
     },
     /// Take what is staged below a position into the file.
     Flush {

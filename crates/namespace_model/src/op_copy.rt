@@ -59,9 +59,18 @@ impl Op {
                 path: path.copy(alloc)?,
                 want: *want,
             }),
-            Op::Append { path, position } => Ok(Op::Append {
+            Op::Append {
+                path,
+                position,
+                flush,
+                retain,
+                action,
+            } => Ok(Op::Append {
                 path: path.copy(alloc)?,
                 position: *position,
+                flush: *flush,
+                retain: *retain,
+                action: *action,
             }),
             Op::Flush {
                 path,

@@ -5,6 +5,7 @@ pub mod Operations
 pub mod Targets
 pub mod Callers
 pub mod Unbuilt
+pub mod Built
 pub mod Parameters
 pub mod Decoded
 pub mod Ready

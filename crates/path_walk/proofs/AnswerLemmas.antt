@@ -14,7 +14,7 @@ use Rattle.namespace_model.specs.Replies.{refusal}
 use Rattle.namespace_model.specs.Sound.{IsSound}
 use Rattle.namespace_model.specs.Step.{acts, outcome, new_paths, closing}
 use Rattle.namespace_model.specs.Trees.{Path, Tree}
-use Rattle.namespace_model.specs.Walks.{missing_below}
+use Rattle.namespace_model.specs.Walks.{missing_below, ended}
 use Rattle.namespace_model.proofs.Alikeness.{among_left}
 use Rattle.namespace_model.proofs.StepLocality.{among_once}
 use Rattle.inode_tree.specs.declared.draft.Draft.{Draft}
@@ -35,7 +35,7 @@ use Rattle.path_walk.specs.declared.stop.End.{End}
 use Rattle.path_walk.specs.declared.stop.End.TheVariants as end
 use Rattle.path_walk.specs.Answers.{stop_reply, IsAnswered}
 use Rattle.path_walk.specs.Visits.{end_of, AreLookedAt, IsOnTheWay}
-use Rattle.path_walk.specs.Ways.{Way, reached, missing, blocked, closed, read_on, ended}
+use Rattle.namespace_model.specs.Ways.{Way, reached, missing, blocked, closed, read_on}
 use Rattle.path_walk.proofs.SetLemmas.{ids_once, lies_more}
 
 -- ---- the outcome of a step that ends with a reply

@@ -34,7 +34,7 @@ use Rattle.path_walk.specs.declared.stop.End.TheVariants as end
 use Rattle.path_walk.specs.declared.stop.Visit.{Visit}
 use Rattle.path_walk.specs.Finds.{last_read, read_to, IsFound, IsFindFor, IsNeedOfFind, IsLook, IsLookAs}
 use Rattle.path_walk.specs.Visits.{end_of, IsVisitFor, AreLookedAt, IsOnTheWay, NeedsChild}
-use Rattle.path_walk.specs.Ways.{Way, reached, missing, blocked, closed, base_of, way_of, read_on}
+use Rattle.namespace_model.specs.Ways.{Way, reached, missing, blocked, closed, base_of, way_of, read_on}
 use Rattle.path_walk.proofs.SetLemmas.{lies_more}
 use Rattle.path_walk.proofs.StepLemmas.{reached_way}
 use Rattle.path_walk.proofs.TrailLemmas.{agreed, agrees_before, looked_grows, looked_more, numbers-append}

@@ -1,4 +1,3 @@
-pub mod WayLemmas
 pub mod LookLemmas
 pub mod TrailLemmas
 pub mod StepLemmas

@@ -13,7 +13,7 @@ use Rattle.namespace_model.specs.Refusals.{caller_of, nobody}
 use Rattle.namespace_model.specs.Sound.{IsSound}
 use Rattle.namespace_model.specs.Step.{acts}
 use Rattle.namespace_model.specs.Trees.{Path, Tree, at}
-use Rattle.namespace_model.specs.Walks.{missing_below, missing_code}
+use Rattle.namespace_model.specs.Walks.{missing_below, missing_code, ended}
 use Rattle.inode_tree.specs.declared.draft.Draft.{Draft}
 use Rattle.inode_tree.specs.declared.fresh.Fresh.{Fresh}
 use Rattle.inode_tree.specs.declared.need.Need.{Need}
@@ -26,17 +26,16 @@ use Rattle.path_walk.specs.declared.find.Found.TheVariants as found
 use Rattle.path_walk.specs.Answers.{stop_reply, IsAnswered, found_outcome}
 use Rattle.path_walk.specs.Finds.{last_read, read_to, IsFound, IsFindFor, IsNeedOfFind}
 use Rattle.path_walk.specs.Visits.{end_of, AreLookedAt}
-use Rattle.path_walk.specs.Ways.{Way, reached, missing, blocked, closed, way_of, read_on, ended}
+use Rattle.namespace_model.specs.Ways.{Way, reached, missing, blocked, closed, way_of, read_on}
 use Rattle.path_walk.proofs.AnswerLemmas.{answer_is_draft, read_need, stop_is, outcome_reads}
-use Rattle.path_walk.proofs.WayLemmas.{walk_is, reading_both}
+use Rattle.namespace_model.proofs.WayLemmas.{reading_both}
 
 module _ (t : Tree) (e : Entry) (p : Path) (some : Node → Outcome) (caller : Caller) (by : caller_of e ≡ caller) where
   abbrev then_node : Option Node → Outcome
   then_node o = noted o p (refused (missing_code p PathNotFound)) some
 
   the_way : looks.found t e p some ≡ reading (read_on t caller p) (ended (missing_below PathNotFound) PathNotFound (then_node (at t p)) (way_of t caller p))
-  the_way = walk_is t (caller_of e) PathNotFound p (then_node (at t p))
-      ∙ ap (λ c. reading (read_on t c p) (ended (missing_below PathNotFound) PathNotFound (then_node (at t p)) (way_of t c p))) by
+  the_way = ap (λ c. reading (read_on t c p) (ended (missing_below PathNotFound) PathNotFound (then_node (at t p)) (way_of t c p))) by
 
   nothing_more : (w : Way) (o : Option Node) → w ≢ reached → read_on t caller p ++ last_read w p o ≡ read_on t caller p
   nothing_more reached o un = absurd (un refl)

@@ -23,7 +23,7 @@ use Rattle.path_walk.specs.declared.way.Met.TheVariants as met
 use Rattle.path_walk.specs.declared.way.Step.{Step}
 use Rattle.path_walk.specs.declared.way.Step.TheVariants as step
 use Rattle.path_walk.specs.declared.way.Trail.{Trail}
-use Rattle.path_walk.specs.Ways.{Way, reached, missing, blocked, closed, base_of, way_of, read_on}
+use Rattle.namespace_model.specs.Ways.{Way, reached, missing, blocked, closed, base_of, way_of, read_on}
 use Rattle.path_walk.specs.Visits.{end_of, IsVisitFor, AreLookedAt, IsOnTheWay, IsMet, IsMetUnderHold, NeedsChild, EndsAs}
 use Rattle.path_walk.specs.Trails.{IsAt, IsTrail, IsStepped, IsTaken, IsEndedAt}
 use Rattle.path_walk.proofs.TrailLemmas.{agreed, agrees_before, looked_grows, looked_more, take_at, child_found, child_lies, missing_way, missing_ends, missing_read, blocked_way, blocked_ends, blocked_read, closed_way, closed_ends, closed_read, passed_on, reached_ends, parent_take}

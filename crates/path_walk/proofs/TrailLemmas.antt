@@ -21,7 +21,7 @@ use Rattle.inode_tree.specs.Views.{Held, Shown, Agrees, Grows, shown_at}
 use Rattle.inode_tree.proofs.IndexLemmas.{index_from_stands, reached_short, some_there}
 use Rattle.inode_tree.proofs.FrameLemmas.{short_id}
 use Rattle.path_walk.specs.declared.stop.End.TheVariants as end
-use Rattle.path_walk.specs.Ways.{Way, reached, missing, blocked, closed, passed, may_enter, met, way_from, behind, seen, read_from}
+use Rattle.namespace_model.specs.Ways.{Way, reached, missing, blocked, closed, passed, may_enter, met, way_from, behind, seen, read_from}
 use Rattle.path_walk.specs.Visits.{end_of, AreLookedAt, IsHeldAndShown}
 use Rattle.path_walk.specs.Trails.{IsAt}
 

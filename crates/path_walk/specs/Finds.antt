@@ -15,7 +15,7 @@ use Rattle.inode_tree.specs.Views.{Held, Shown, Agrees, covers, shown_at}
 use Rattle.path_walk.specs.declared.find.Find.{Find}
 use Rattle.path_walk.specs.declared.find.Found.{Found}
 use Rattle.path_walk.specs.declared.find.Found.TheVariants as found
-use Rattle.path_walk.specs.Ways.{Way, reached, missing, blocked, closed, way_of, read_on}
+use Rattle.namespace_model.specs.Ways.{Way, reached, missing, blocked, closed, way_of, read_on}
 use Rattle.path_walk.specs.Visits.{end_of, IsHeldAndShown}
 
 -- the node of the path itself is read where the way is reached and it is there

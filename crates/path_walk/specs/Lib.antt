@@ -1,4 +1,3 @@
-pub mod Ways
 pub mod Visits
 pub mod Trails
 pub mod Answers

@@ -17,7 +17,7 @@ use Rattle.path_walk.specs.declared.way.Met.TheVariants as met
 use Rattle.path_walk.specs.declared.way.Step.{Step}
 use Rattle.path_walk.specs.declared.way.Step.TheVariants as step
 use Rattle.path_walk.specs.declared.way.Trail.{Trail}
-use Rattle.path_walk.specs.Ways.{way_from, read_from}
+use Rattle.namespace_model.specs.Ways.{way_from, read_from}
 use Rattle.path_walk.specs.Visits.{IsVisitFor, AreLookedAt}
 
 -- The first names lead to this id and its inode, nothing has ended the way so far, and these are the ids of what was read.

@@ -20,7 +20,7 @@ use Rattle.path_walk.specs.declared.stop.WalkStop.{WalkStop}
 use Rattle.path_walk.specs.declared.stop.WalkStop.TheVariants as stop
 use Rattle.path_walk.specs.declared.way.Met.{Met}
 use Rattle.path_walk.specs.declared.way.Met.TheVariants as met
-use Rattle.path_walk.specs.Ways.{Way, reached, missing, blocked, closed, may_enter, base_of, way_of, read_on}
+use Rattle.namespace_model.specs.Ways.{Way, reached, missing, blocked, closed, may_enter, base_of, way_of, read_on}
 
 -- the end that a way has, with the number of names at which it ends
 abbrev pub end_of : Way → End

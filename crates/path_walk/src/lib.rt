@@ -12,15 +12,13 @@
 //! `refusal`, `denial`, `stop_reply` and `closing` make the replies that all operations share, and `answered` the draft of an answer that
 //! changes nothing.
 //!
-//! The definitions stand in `specs/Ways.antt`, and what a visit is of them in `specs/Visits.antt`; what stands at a path in
-//! `specs/Finds.antt`; answers in `specs/Answers.antt`; holds in `specs/Holds.antt`. That the model's walk is the way with what comes of it is the law
-//! `the_walk_is_the_way`.
+//! The way is that of the model (`namespace_model`, `specs/Ways.antt`). What a visit is of it stands in `specs/Visits.antt`; what stands at a path in
+//! `specs/Finds.antt`; answers in `specs/Answers.antt`; holds in `specs/Holds.antt`.
 #![tactic(auto)]
 
 mod answer;
 mod find;
 mod hold;
-mod laws;
 mod look;
 mod stop;
 mod way;
@@ -28,7 +26,6 @@ mod way;
 pub use answer::{answered, closing, denial, refusal, stop_reply};
 pub use find::{Find, Found, look_below, look_up};
 pub use hold::unheld;
-pub use laws::the_walk_is_the_way;
 pub use look::{child_of, is_directory, may_enter};
 pub use stop::{End, Visit, Walk, WalkStop};
 pub use way::{visit, walk};

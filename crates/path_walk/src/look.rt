@@ -4,7 +4,7 @@ ghost use Rattle.inode_tree.specs.Inodes.{node_of};
 ghost use Rattle.inode_tree.specs.Parts.{child_of};
 ghost use Rattle.inode_tree.specs.declared.id.NodeId.{NodeId};
 ghost use Rattle.namespace_model.specs.Nodes.{is_directory};
-ghost use Rattle.path_walk.specs.Ways.{may_enter};
+ghost use Rattle.namespace_model.specs.Ways.{may_enter};
 
 use acl_check::check;
 use acl_text::Perm;

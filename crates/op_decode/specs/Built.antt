@@ -1,7 +1,7 @@
--- Which requests are built so far. Every other sound request is answered that it is not built when it is decoded.
+-- Which requests have an evaluator so far. Every other sound request is answered that it is not built when it is decoded.
 use Rattle.std.specs.Prelude.{◌≡◌, [], ⊤, Some, None}
 use Rattle.acl_text.specs.Ids.{superuser}
-use Rattle.head_text.specs.declared.conditions.Conditions.{Conditions}
+use Rattle.head_text.specs.Conditions.{no_conditions}
 use Rattle.namespace_model.specs.declared.op.Op.{Op}
 use Rattle.namespace_model.specs.declared.op.Op.TheVariants as op
 use Rattle.namespace_model.specs.declared.request.Request.{Request}
@@ -14,9 +14,6 @@ IsBuiltOperation (op.GetProperties path status) = ⊤
 IsBuiltOperation (op.Delete path recursive) = ⊤
 IsBuiltOperation (op.Refused code) = ⊤
 IsBuiltOperation other = ⊥
-
-abbrev pub no_conditions : Conditions
-no_conditions = record { matches = None; none = None; modified = None; unmodified = None }
 
 -- by the superuser, without groups, conditions and lease ids
 pub record HasBuiltHeaders (request : Request) : Type 0 where

@@ -1,14 +1,10 @@
 -- The way from a directory along names: what is read on it, and how it ends.
-use Rattle.std.specs.Prelude.{◌≡◌, List, [], ◌∷◌, ◌++◌, Option, Some, None, Result, Ok, Err, if◌then◌else◌}
+use Rattle.std.specs.Prelude.{List, [], ◌∷◌, ◌++◌, Option, Some, None, Result, Ok, Err, if◌then◌else◌}
 use Rattle.namespace_model.specs.declared.caller.Caller.{Caller}
-use Rattle.namespace_model.specs.declared.code.Code.{Code}
 use Rattle.namespace_model.specs.declared.denied.Refusal.{Refusal}
-use Rattle.namespace_model.specs.Access.{access_check}
+use Rattle.namespace_model.specs.Access.{access_check, execute}
 use Rattle.namespace_model.specs.Nodes.{Node, is_directory}
-use Rattle.namespace_model.specs.Outcomes.{Outcome, answered, reading, refused}
-use Rattle.namespace_model.specs.Replies.{denial}
 use Rattle.namespace_model.specs.Trees.{Path, Tree, at, parent}
-use Rattle.namespace_model.specs.Walks.{walk, missing_below}
 
 -- All directories of the way are there and let the caller through; or a node is missing below this directory; or there is a file at this path; or execute is
 -- denied at this one.
@@ -19,12 +15,13 @@ pub data Way : Type 0 where
   closed : Path → Refusal → Way
 
 -- whether a directory lets the caller through, by the check of execute
+abbrev pub may_enter : Caller → Node → Result Unit Refusal
+may_enter caller x = access_check x.acl.access x.owner x.group caller execute
+
+-- how the way goes on behind a directory that lets the caller through
 abbrev pub passed : Path → Result Unit Refusal → Way → Way
 passed p (Ok allowed) on = on
-passed p (Err refusal) on = closed p refusal
-
-abbrev pub may_enter : Caller → Node → Result Unit Refusal
-may_enter caller x = access_check x.acl.access x.owner x.group caller 1
+passed p (Err r) on = closed p r
 
 -- the node at a path below a directory, and how the way goes on behind it
 abbrev pub met : Caller → Path → Path → Option Node → Way → Way
@@ -39,7 +36,7 @@ way_from t caller done (n ∷ names) = met caller done (done ++ n ∷ []) (at t 
 -- what is read behind a directory that lets the caller through
 abbrev pub behind : Result Unit Refusal → List Path → List Path
 behind (Ok allowed) rest = rest
-behind (Err refusal) rest = []
+behind (Err r) rest = []
 
 -- a node that is there is read
 abbrev pub seen : Caller → Path → Option Node → List Path → List Path
@@ -64,16 +61,4 @@ abbrev pub base_of : Path → Way → Path
 base_of path reached = parent path
 base_of path (missing d) = d
 base_of path (blocked p) = parent p
-base_of path (closed p refusal) = parent p
-
--- what comes of a step by the way: what comes where it is reached, what comes where a node is missing, the code of a file in the way, and the denial
-abbrev pub ended : (Path → Outcome) → Code → Outcome → Way → Outcome
-ended lost code after reached = after
-ended lost code after (missing d) = lost d
-ended lost code after (blocked p) = refused code
-ended lost code after (closed p refusal) = answered (denial refusal.rule p 1 refusal.have)
-
--- the model's walk reads what is read on the way, and then comes what its end says
-abbrev pub WalksAreWays : Type 0
-WalksAreWays = (t : Tree) (caller : Caller) (code : Code) (p : Path) (after : Outcome)
-    → walk t caller code p after ≡ reading (read_on t caller p) (ended (missing_below code) code after (way_of t caller p))
+base_of path (closed p r) = parent p

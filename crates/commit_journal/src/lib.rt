@@ -6,9 +6,11 @@
 #![tactic(auto)]
 
 mod journal;
+mod keeper;
 mod limits;
 #[cfg(test)]
 mod tests;
 
 pub use journal::{Journal, ReserveStop};
+pub use keeper::{KeepStop, Keeper, NoKeep};
 pub use limits::{BYTES_MOST, Full, JOURNAL_MOST, Limits, PASSES_MOST, REQUESTS_MOST};

@@ -108,7 +108,7 @@ all_noted holds wide below k = ⊎_elim
     (λ h. subst (λ (z : Hold ℕ). IsNoted z) (sym (hold_at-past holds k (omega arith))) tt)
     (inside k)
 
-module _ (t : SeatView ℕ TallyEntry) (held : HeldView ℕ) (e : TallyEntry) (is : IsHeldBy (λ x. x) t held)
+module _ {K : Type 0} (t : SeatView ℕ TallyEntry K) (held : HeldView ℕ) (e : TallyEntry) (is : IsHeldBy (λ x. x) t held)
     (modes : (k : ℕ) → k < 64 → slice_get held.modes k ≡ Some (mode_of (nat_eq k e.writes) (nat_eq k e.reads))) (wide : length t.me.0.at.holds ≡ 64)
     (own : e.pass ≡ number_of t) where
   -- what is held is the footprint of the entry, and the stripe that it reads was looked at
@@ -137,16 +137,16 @@ of_two P a b p q (suc zero) s e = subst P (some_inj b s e) q
 of_two P a b p q (suc (suc k)) s e = absurd (none-some s e)
 
 -- two passes are all passes of their store
-pub two_are : {T E : Type 0} (store : TableView E) (a b : PassView T E) → IsOf store a → IsOf store b → HoldsNothing a.seat → HoldsNothing b.seat → store.limits.passes ≡ 2
+pub two_are : {T E K : Type 0} (store : TableView E) (a b : PassView T E K) → IsOf store a → IsOf store b → HoldsNothing a.seat → HoldsNothing b.seat → store.seats ≡ 2
     → number_of_pass a ≡ 0 → number_of_pass b ≡ 1 → AreEveryPass store (a ∷ b ∷ [])
-two_are {T} {E} store a b own_a own_b no_a no_b two first second = record {
+two_are {T} {E} {K} store a b own_a own_b no_a no_b two first second = record {
   many = sym two;
-  own = of_two (λ (z : PassView T E). IsOf store z) a b own_a own_b;
-  nothing = of_two (λ (z : PassView T E). HoldsNothing z.seat) a b no_a no_b;
+  own = of_two (λ (z : PassView T E K). IsOf store z) a b own_a own_b;
+  nothing = of_two (λ (z : PassView T E K). HoldsNothing z.seat) a b no_a no_b;
   every = by_number;
 }
   where
-    by_number : (n : ℕ) → n < store.limits.passes → (k : ℕ) × (p : PassView T E) × (slice_get (a ∷ b ∷ []) k ≡ Some p) × (number_of_pass p ≡ n)
+    by_number : (n : ℕ) → n < store.seats → (k : ℕ) × (p : PassView T E K) × (slice_get (a ∷ b ∷ []) k ≡ Some p) × (number_of_pass p ≡ n)
     by_number zero h = (0, a, refl, first)
     by_number (suc zero) h = (1, b, refl, second)
     by_number (suc (suc n)) h = absurd (omega arith)

@@ -1,3 +1,4 @@
+mod keeping;
 mod machine;
 mod store;
 mod table;

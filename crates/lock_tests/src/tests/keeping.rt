@@ -1,12 +1,12 @@
-ghost use Rattle.std.specs.Prelude.{◌≡◌, IfOk, Some, [], length};
-ghost use Rattle.striped_store.specs.Views.{AreNewPasses, IsNewPass};
+ghost use Rattle.std.specs.Prelude.{◌≡◌, Some, []};
 
+use super::one::{closed, opened};
 use crate::callers::{Refused, tallied};
-use commit_journal::{KeepStop, Keeper, Limits};
+use commit_journal::{KeepStop, Keeper};
 use lock_core::{Tally, TallyEntry};
 use std::alloc::{AllocError, Global};
 use std::test::Fail;
-use striped_store::{Closing, CommitRefusal, Receipt, Store};
+use striped_store::{Closing, CommitRefusal, Receipt};
 
 /// A keeper in memory, whose device fails at one call.
 #[derive(Drop)]
@@ -48,10 +48,8 @@ impl Keeper<TallyEntry> for MemKeep {
 
 #[test]
 fn a_keeper_that_fails_refuses_one_commit(rt: HostRuntime) -> Result<(), Fail> {
-    let limits = Limits::new(1, 9, 100, 1).ok_or("no limits")?;
     let keeper = MemKeep::new(rt.alloc(), 2);
-    let (store, mut passes) = Store::<Tally, MemKeep>::start(rt.alloc(), &limits, keeper)?;
-    let mut pass = passes.pop().ok_or("no pass")?;
+    let (store, passes, mut pass) = opened::<Tally, MemKeep>(rt.alloc(), 9, 100, keeper)?;
     let kept = tallied(&rt, &store, &mut pass, 1, 2);
     assert!(rt; kept.is_ok());
     let refused = Refused {
@@ -67,10 +65,9 @@ fn a_keeper_that_fails_refuses_one_commit(rt: HostRuntime) -> Result<(), Fail> {
         rounds: 0,
     };
     assert_eq!(rt; tallied(&rt, &store, &mut pass, 2, 1), Ok(receipt));
-    passes.push(pass)?;
     let Closing {
         journal, keeper, ..
-    } = store.close(passes);
+    } = closed(store, passes, pass)?;
     assert_eq!(rt; (journal.len(), keeper.entries.len()), (2, 2));
     assert_eq!(rt; (keeper.calls, keeper.faults), (3, 1));
     assert_eq!(rt; journal.get(2), keeper.entries.get(1));

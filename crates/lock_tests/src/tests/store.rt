@@ -13,9 +13,9 @@ use std::thread;
 use std::thread::Threads;
 use striped_store::{Closing, CommitRefusal, Pass, Receipt, Store};
 
-type Passes = Vec<Pass<Tally, NoKeep>>;
+pub(super) type Passes = Vec<Pass<Tally, NoKeep>>;
 
-fn opened(alloc: Global, passes: u32, entries: u64) -> Result<(Store<Tally, NoKeep>, Passes), Fail>
+pub(super) fn opened(alloc: Global, passes: u32, entries: u64) -> Result<(Store<Tally, NoKeep>, Passes), Fail>
     ensures many { IfOk result (λ r. length r.1.items ≡ r.0.seats) }
     ensures new { IfOk result (λ r. AreNewPasses r.0 r.1.items) }
 {
@@ -24,7 +24,7 @@ fn opened(alloc: Global, passes: u32, entries: u64) -> Result<(Store<Tally, NoKe
 }
 
 /// The last of the new passes.
-fn popped(store: &Store<Tally, NoKeep>, passes: &mut Passes) -> Result<Pass<Tally, NoKeep>, Fail>
+pub(super) fn popped(store: &Store<Tally, NoKeep>, passes: &mut Passes) -> Result<Pass<Tally, NoKeep>, Fail>
     requires { AreNewPasses store.now passes.old.items }
     ensures new { AreNewPasses store.now passes.new.items }
     ensures fewer { OnOk result (length passes.new.items + 1 ≡ length passes.old.items) }
@@ -82,7 +82,7 @@ fn both_churned<R: Threads + Wait + Sync>(
 }
 
 /// Closes a store of two passes.
-fn closed(
+pub(super) fn closed(
     store: Store<Tally, NoKeep>,
     mut passes: Passes,
     first: Pass<Tally, NoKeep>,

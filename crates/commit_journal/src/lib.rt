@@ -6,7 +6,9 @@
 #![tactic(auto)]
 
 mod journal;
+mod keeper;
 mod limits;
 
 pub use journal::{Journal, ReserveStop};
+pub use keeper::{KeepStop, Keeper, NoKeep};
 pub use limits::{BYTES_MOST, Full, JOURNAL_MOST, Limits, PASSES_MOST, REQUESTS_MOST};

@@ -57,6 +57,10 @@ pub trait Parted: Drop {
     // The work is that of the entry on these parts.
     ghost does: { Self.Work → List Self.Part → Self.Entry → Type 0 };
 
+    /// The number of the pass that made the entry.
+    fn pass_of(entry: &Self::Entry) -> u32
+        ensures { result ≡ object.by entry.now };
+
     /// The 64 parts at the start. The one error is want of memory.
     fn opening_parts(alloc: Global) -> Result<Vec<Self::Part>, AllocError>
         ensures { IfOk result (λ parts. map bare parts.items ≡ object.opening) };
@@ -78,10 +82,6 @@ pub trait Parted: Drop {
 
 /// The calls by which the pure machine runs an object. They speak of all 64 parts.
 pub trait Played: Parted {
-    /// The number of the pass that made the entry.
-    fn pass_of(entry: &Self::Entry) -> u32
-        ensures { result ≡ Self.object.by entry.now };
-
     /// The mode that each stripe needs: exclusive where the entry writes, shared where it only reads. The one error is
     /// want of memory.
     fn footprint(

@@ -56,6 +56,10 @@ impl Parted for Tally {
 
     ghost does = { tally_does };
 
+    fn pass_of(entry: &TallyEntry) -> u32 {
+        entry.pass
+    }
+
     fn opening_parts(alloc: Global) -> Result<Vec<u64>, AllocError> {
         Vec::from_elem(alloc, 0u64, 64)
     }
@@ -76,10 +80,6 @@ impl Parted for Tally {
 }
 
 impl Played for Tally {
-    fn pass_of(entry: &TallyEntry) -> u32 {
-        entry.pass
-    }
-
     fn footprint(
         _alloc: Global,
         _parts: &[u64],

@@ -21,7 +21,7 @@ use Rattle.striped_store.specs.Closed.{AreEveryPass}
 use Rattle.striped_store.proofs.Footprints.{some_read}
 use mathlib.Core.Option.{some, some-ne-none}
 
-in_replicate : {A : Type 0} (n k : ℕ) (a : A) → k < n → slice_get (replicate n a) k ≡ Some a
+pub in_replicate : {A : Type 0} (n k : ℕ) (a : A) → k < n → slice_get (replicate n a) k ≡ Some a
 in_replicate zero k a h = absurd (omega arith)
 in_replicate (suc n) zero a h = refl
 in_replicate (suc n) (suc k) a h = in_replicate n k a (omega arith)
@@ -75,7 +75,7 @@ below_exclusive mode.Exclusive = tt
 pub within_every : (keep modes : List LockMode) → ((k : ℕ) → k < 64 → slice_get modes k ≡ Some mode.Exclusive) → IsWithin keep modes
 within_every keep modes every k m n h a b = subst (λ (z : LockMode). IsBelow m z) (some_inj mode.Exclusive n (sym (every k h) ∙ b)) (below_exclusive m)
 
-noted : (w r : Bool) (h : Hold ℕ) → HeldIn (mode_of w r) h → (w ≡ false → r ≡ true → (x : ℕ) × (note_of h ≡ some x)) → IsNoted h
+noted : {T : Type 0} (w r : Bool) (h : Hold T) → HeldIn (mode_of w r) h → (w ≡ false → r ≡ true → (x : T) × (note_of h ≡ some x)) → IsNoted h
 noted w r Free a f = tt
 noted true r Shared a f = absurd a
 noted false true Shared a f = let t = f refl refl in absurd (some-ne-none t.0 (sym t.1))
@@ -102,13 +102,13 @@ inside k = split 64 k
     split (suc n) zero = inl (omega arith)
     split (suc n) (suc k) = ⊎_elim (λ p. inl (omega arith)) (λ p. inr (omega arith)) (split n k)
 
-all_noted : (holds : List (Hold ℕ)) → length holds ≡ 64 → ((k : ℕ) → k < 64 → IsNoted (hold_at holds k)) → (k : ℕ) → IsNoted (hold_at holds k)
-all_noted holds wide below k = ⊎_elim
+pub all_noted : {T : Type 0} (holds : List (Hold T)) → length holds ≡ 64 → ((k : ℕ) → k < 64 → IsNoted (hold_at holds k)) → (k : ℕ) → IsNoted (hold_at holds k)
+all_noted {T} holds wide below k = ⊎_elim
     (λ h. below k h)
-    (λ h. subst (λ (z : Hold ℕ). IsNoted z) (sym (hold_at-past holds k (omega arith))) tt)
+    (λ h. subst (λ (z : Hold T). IsNoted z) (sym (hold_at-past holds k (omega arith))) tt)
     (inside k)
 
-module _ (t : SeatView ℕ TallyEntry) (held : HeldView ℕ) (e : TallyEntry) (is : IsHeldBy (λ x. x) t held)
+module _ {K : Type 0} (t : SeatView ℕ TallyEntry K) (held : HeldView ℕ) (e : TallyEntry) (is : IsHeldBy (λ x. x) t held)
     (modes : (k : ℕ) → k < 64 → slice_get held.modes k ≡ Some (mode_of (nat_eq k e.writes) (nat_eq k e.reads))) (wide : length t.me.0.at.holds ≡ 64)
     (own : e.pass ≡ number_of t) where
   -- what is held is the footprint of the entry, and the stripe that it reads was looked at
@@ -136,17 +136,43 @@ of_two P a b p q zero s e = subst P (some_inj a s e) p
 of_two P a b p q (suc zero) s e = subst P (some_inj b s e) q
 of_two P a b p q (suc (suc k)) s e = absurd (none-some s e)
 
--- two passes are all passes of their store
-pub two_are : {T E : Type 0} (store : TableView E) (a b : PassView T E) → IsOf store a → IsOf store b → HoldsNothing a.seat → HoldsNothing b.seat → store.limits.passes ≡ 2
-    → number_of_pass a ≡ 0 → number_of_pass b ≡ 1 → AreEveryPass store (a ∷ b ∷ [])
-two_are {T} {E} store a b own_a own_b no_a no_b two first second = record {
-  many = sym two;
-  own = of_two (λ (z : PassView T E). IsOf store z) a b own_a own_b;
-  nothing = of_two (λ (z : PassView T E). HoldsNothing z.seat) a b no_a no_b;
+of_one : {A : Type 0} (P : A → Type 0) (a : A) → P a → (k : ℕ) (s : A) → slice_get (a ∷ []) k ≡ Some s → P s
+of_one P a p zero s e = subst P (some_inj a s e) p
+of_one P a p (suc k) s e = absurd (none-some s e)
+
+-- one pass is all passes of its store
+pub one_is : {T E K : Type 0} (store : TableView E) (a : PassView T E K) → IsOf store a → HoldsNothing a.seat → store.seats ≡ 1
+    → number_of_pass a ≡ 0 → AreEveryPass store (a ∷ [])
+one_is {T} {E} {K} store a own nothing one first = record {
+  many = sym one;
+  own = of_one (λ (z : PassView T E K). IsOf store z) a own;
+  nothing = of_one (λ (z : PassView T E K). HoldsNothing z.seat) a nothing;
   every = by_number;
 }
   where
-    by_number : (n : ℕ) → n < store.limits.passes → (k : ℕ) × (p : PassView T E) × (slice_get (a ∷ b ∷ []) k ≡ Some p) × (number_of_pass p ≡ n)
+    by_number : (n : ℕ) → n < store.seats → (k : ℕ) × (p : PassView T E K) × (slice_get (a ∷ []) k ≡ Some p) × (number_of_pass p ≡ n)
+    by_number zero h = (0, a, refl, first)
+    by_number (suc n) h = absurd (omega arith)
+
+-- nothing is held above a stripe where a plan holds none, nor above one that was added
+pub none_above : (modes plan : List LockMode) → modes ≡ plan → plan ≡ no_plan → (k : ℕ) → k < 64 → slice_get modes k ≡ Some mode.None
+none_above modes plan e none k h = ap (λ (l : List LockMode). slice_get l k) (e ∙ none) ∙ in_replicate 64 k mode.None h
+
+pub none_beyond : (modes more : List LockMode) (low : ℕ) → more ≡ slice_set modes low mode.Exclusive → ((k : ℕ) → k < 64 → slice_get modes k ≡ Some mode.None)
+    → (k : ℕ) → low + 1 ≤ k → k < 64 → slice_get more k ≡ Some mode.None
+none_beyond modes more low e none k above h = ap (λ (l : List LockMode). slice_get l k) e ∙ get-set_other modes low k mode.Exclusive (λ q. absurd (omega arith)) ∙ none k h
+
+-- two passes are all passes of their store
+pub two_are : {T E K : Type 0} (store : TableView E) (a b : PassView T E K) → IsOf store a → IsOf store b → HoldsNothing a.seat → HoldsNothing b.seat → store.seats ≡ 2
+    → number_of_pass a ≡ 0 → number_of_pass b ≡ 1 → AreEveryPass store (a ∷ b ∷ [])
+two_are {T} {E} {K} store a b own_a own_b no_a no_b two first second = record {
+  many = sym two;
+  own = of_two (λ (z : PassView T E K). IsOf store z) a b own_a own_b;
+  nothing = of_two (λ (z : PassView T E K). HoldsNothing z.seat) a b no_a no_b;
+  every = by_number;
+}
+  where
+    by_number : (n : ℕ) → n < store.seats → (k : ℕ) × (p : PassView T E K) × (slice_get (a ∷ b ∷ []) k ≡ Some p) × (number_of_pass p ≡ n)
     by_number zero h = (0, a, refl, first)
     by_number (suc zero) h = (1, b, refl, second)
     by_number (suc (suc n)) h = absurd (omega arith)

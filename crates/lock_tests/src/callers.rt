@@ -2,9 +2,10 @@
 ghost use Rattle.std.specs.Prelude.{◌≡◌, ◌<◌, ℕ, Some, slice_get, nat_eq};
 ghost use Rattle.lock_core.specs.declared.object.LockMode.TheVariants as mode;
 ghost use Rattle.lock_core.specs.Object.{mode_of};
-ghost use Rattle.path_locks.specs.Views.{HoldsNothing, IsSameSeat};
+ghost use Rattle.path_locks.specs.Views.{HoldsNothing, IsSeatAgain};
 ghost use Rattle.striped_store.specs.Views.{IsOf};
 
+use commit_journal::Keeper;
 use lock_core::{LockMode, Tally, TallyEntry};
 use path_locks::Plan;
 use std::sync::Wait;
@@ -41,17 +42,17 @@ pub fn every_stripe() -> Plan
 }
 
 /// Takes what the entry needs, reads, and commits.
-pub fn tallied<R: Wait>(
+pub fn tallied<R: Wait, K: Keeper<TallyEntry>>(
     rt: &R,
-    store: &Store<Tally>,
-    pass: &mut Pass<Tally>,
+    store: &Store<Tally, K>,
+    pass: &mut Pass<Tally, K>,
     reads: u8,
     writes: u8,
 ) -> Result<Receipt, Refused>
     requires own { IsOf store.now pass.old }
     requires nothing { HoldsNothing pass.old.seat }
     requires stripes { (reads < 64) × (writes < 64) }
-    ensures same { IsSameSeat pass.old.seat pass.new.seat }
+    ensures same { IsSeatAgain pass.old.seat pass.new.seat }
     ensures nothing { HoldsNothing pass.new.seat }
 {
     let plan = footprint(reads, writes);
@@ -74,17 +75,17 @@ pub fn tallied<R: Wait>(
 }
 
 /// Takes every stripe, reads, keeps what the entry needs, and commits.
-pub fn narrowed<R: Wait>(
+pub fn narrowed<R: Wait, K: Keeper<TallyEntry>>(
     rt: &R,
-    store: &Store<Tally>,
-    pass: &mut Pass<Tally>,
+    store: &Store<Tally, K>,
+    pass: &mut Pass<Tally, K>,
     reads: u8,
     writes: u8,
 ) -> Option<Receipt>
     requires own { IsOf store.now pass.old }
     requires nothing { HoldsNothing pass.old.seat }
     requires stripes { (reads < 64) × (writes < 64) }
-    ensures same { IsSameSeat pass.old.seat pass.new.seat }
+    ensures same { IsSeatAgain pass.old.seat pass.new.seat }
     ensures nothing { HoldsNothing pass.new.seat }
 {
     let plan = every_stripe();

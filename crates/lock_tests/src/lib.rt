@@ -4,5 +4,6 @@
 #![tactic(auto)]
 
 pub mod callers;
+pub mod shelves;
 #[cfg(test)]
 mod tests;

@@ -1,3 +1,7 @@
+mod extending;
+mod keeping;
 mod machine;
+mod one;
+mod shelves;
 mod store;
 mod table;

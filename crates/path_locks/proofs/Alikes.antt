@@ -8,8 +8,8 @@ use Rattle.path_locks.specs.Holding.{AreOut, empties}
 use Rattle.path_locks.specs.Views.{SeatView, HeldView, has_journal, with_book, HoldsNothing, IsHeldBy}
 use Rattle.path_locks.specs.Alike.{HoldsAlike}
 
-module _ {T E : Type 0} where
-  pub alike_held : (bare : T → T) (s t : SeatView T E) (h : HeldView T) → HoldsAlike s t → IsHeldBy bare s h → IsHeldBy bare t h
+module _ {T E K : Type 0} where
+  pub alike_held : (bare : T → T) (s t : SeatView T E K) (h : HeldView T) → HoldsAlike s t → IsHeldBy bare s h → IsHeldBy bare t h
   alike_held bare s t h a held = record {
     no_latch = a.latch ∙ held.no_latch;
     modes = subst (λ (z : List (Hold T)). AreHeld h.modes 64 z) (sym a.holds) held.modes;
@@ -19,7 +19,7 @@ module _ {T E : Type 0} where
   }
 
   -- a seat that held nothing holds nothing again, once it has given the journal back
-  pub alike_nothing : (s t u : SeatView T E) → HoldsNothing s → HoldsAlike s t → HoldsAlike t u → has_journal u ≡ false → HoldsNothing u
+  pub alike_nothing : (s t u : SeatView T E K) → HoldsNothing s → HoldsAlike s t → HoldsAlike t u → has_journal u ≡ false → HoldsNothing u
   alike_nothing s t u n a b none = record {
     idle = record {
       no_hold = λ k. subst (λ (z : List (Hold T)). HeldIn mode.None (hold_at z k)) (sym (b.holds ∙ a.holds)) (n.idle.no_hold k);

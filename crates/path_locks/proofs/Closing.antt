@@ -12,6 +12,7 @@ use Rattle.lock_core.proofs.CoreMoves.{seat_at_there}
 use Rattle.lock_core.proofs.Idle.{all_home}
 use Rattle.lock_core.proofs.Seats.{old_is_other}
 use Rattle.commit_journal.specs.Journal.{JournalView}
+use Rattle.commit_journal.specs.Keeper.{Told, AreKept}
 use Rattle.atomic_table.specs.Table.{State, Final, Seen}
 use Rattle.atomic_table.specs.Seated.{TableId}
 use Rattle.path_locks.specs.declared.rule.Slot.{Slot}
@@ -21,19 +22,11 @@ use Rattle.path_locks.specs.declared.rule.Opening.{Opening}
 use Rattle.path_locks.specs.Rule.{Ruled}
 use Rattle.path_locks.specs.Plays.{IsResting}
 use Rattle.path_locks.specs.Views.{SeatView, TableView, table_of, Knew, joined_in, itself, itself_before, AreEverySeat, AreTakenOut, SawOf}
+use Rattle.path_locks.proofs.Kept.{same_book, same_keeper}
 use Rattle.path_locks.proofs.Below.{some_inj}
 use Rattle.path_locks.proofs.Shown.{part_there, seat_of_view}
 use mathlib.Core.Option.{Option, some, some-injective}
 use lib.ListN.{get_elem?, length-map}
-
-book_or : {T E : Type 0} → JournalView E → Slot T E → JournalView E
-book_or d Empty = d
-book_or d (Part y) = d
-book_or d (Book j) = j
-
-same_book : {T E : Type 0} (x y : JournalView E) → (let s : Slot T E = Book x in s) ≡ Book y → x ≡ y
-unfolding book_or
-same_book {T} {E} x y e = ap (λ (z : Slot T E). book_or x z) e
 
 -- two lists with the same elements under a function
 same_lists : {A B : Type 0} (f : A → B) (n : ℕ) (xs : List A) (ys : List B) → length xs ≡ n → length ys ≡ n
@@ -49,7 +42,7 @@ same_lists f (suc n) (x ∷ xs) (y ∷ ys) a b h =
     let others = same_lists f n xs ys (omega arith) (omega arith) (λ k l. h (suc k) (omega arith)) in
     λ i. first i ∷ others i
 
-module _ {T E R : Type 0} (o : Object T E R) (lawful : IsLawful o) (bare : T → T) (key : Opening E) (t : State (Slot T E) (View T E)) (ruled : Ruled o bare key t)
+module _ {T E R K : Type 0} (o : Object T E R) (lawful : IsLawful o) (bare : T → T) (tells : K → Told E) (key : Opening E K) (t : State (Slot T E K) (View T E)) (ruled : Ruled o bare tells key t)
     (id : ℕ) (v : View T E) (here : get_elem? t.views id ≡ some v) (rest : IsResting v.at)
     (every : (n : ℕ) → n < key.seats → (p : Known E) × (p.number ≡ n) × Knew v p) where
   ok : IsSound o key.journal.value.entries ruled.0
@@ -116,7 +109,7 @@ module _ {T E R : Type 0} (o : Object T E R) (lawful : IsLawful o) (bare : T →
       from zero e = let w = ok.journal_word in omega arith
       from (suc n) e = absurd (found (omega arith))
 
-  module _ (xs : List (Slot T E)) (final : (k : ℕ) (y : Slot T E) → get_elem? t.homes k ≡ some (some y) → get_elem? xs k ≡ some y) where
+  module _ (xs : List (Slot T E K)) (final : (k : ℕ) (y : Slot T E K) → get_elem? t.homes k ≡ some (some y) → get_elem? xs k ≡ some y) where
     -- each part lies in its slot, and is that of the replay
     pub part_left : (k : ℕ) → k < 64 → (y : T) × (get_elem? xs k ≡ some (Part y)) × (get_elem? (replay o (ruled.0).journal) k ≡ some (bare y))
     part_left k h =
@@ -126,15 +119,24 @@ module _ {T E R : Type 0} (o : Object T E R) (lawful : IsLawful o) (bare : T →
         (slot.0, final k (Part slot.0) slot.1, p.1 ∙ ap (λ (z : T). some z) (sym slot.2))
 
     -- and so does the journal
-    pub book_left : (b : JournalView E) × (get_elem? xs 64 ≡ some (Book b)) × (b.entries ≡ (ruled.0).journal) × (b.limits ≡ key.journal.value.limits)
-    book_left = let b = (ruled.1).book given in (b.book, final 64 (Book b.book) b.there, b.entries_are, b.limits_are)
+    pub book_left : (b : JournalView E) × (c : K) × (get_elem? xs 64 ≡ some (Book b c)) × (b.entries ≡ (ruled.0).journal) × (b.limits ≡ key.journal.value.limits)
+        × AreKept (tells c).kept b.entries
+    book_left = let b = (ruled.1).book given in
+        (b.book, b.keeper, final 64 (Book b.book b.keeper) b.there, b.entries_are, b.limits_are, (ruled.4).kept b.book b.keeper b.there)
 
-    module _ (parts : List T) (book : JournalView E) (out : AreTakenOut xs parts book) where
+    module _ (parts : List T) (book : JournalView E) (keeper : K) (out : AreTakenOut xs parts book keeper) where
       pub journal_is : book.entries ≡ (ruled.0).journal
-      journal_is = let b = book_left in ap (λ (z : JournalView E). z.entries) (same_book book b.0 (some-injective _ _ (sym out.book_is ∙ b.1))) ∙ b.2
+      journal_is = let b = book_left in ap (λ (z : JournalView E). z.entries) (same_book book b.0 keeper b.1 (some-injective _ _ (sym out.book_is ∙ b.2))) ∙ b.3
 
       pub limits_are : book.limits ≡ key.journal.value.limits
-      limits_are = let b = book_left in ap (λ (z : JournalView E). z.limits) (same_book book b.0 (some-injective _ _ (sym out.book_is ∙ b.1))) ∙ b.3
+      limits_are = let b = book_left in ap (λ (z : JournalView E). z.limits) (same_book book b.0 keeper b.1 (some-injective _ _ (sym out.book_is ∙ b.2))) ∙ b.4
+
+      pub keeper_keeps : AreKept (tells keeper).kept book.entries
+      keeper_keeps =
+          let b = book_left in
+          let q = some-injective _ _ (sym out.book_is ∙ b.2) in
+          subst (λ (z : K). AreKept (tells z).kept book.entries) (sym (same_keeper book b.0 keeper b.1 q))
+          (subst (λ (z : JournalView E). AreKept (tells b.1).kept z.entries) (sym (same_book book b.0 keeper b.1 q)) b.5)
 
       pub parts_are : map bare parts ≡ replay o book.entries
       parts_are = same_lists bare 64 parts (replay o (ruled.0).journal) out.long (length-replay o lawful (ruled.0).journal)
@@ -147,27 +149,28 @@ module _ {T E R : Type 0} (o : Object T E R) (lawful : IsLawful o) (bare : T →
       entries_made = subst (λ (z : List E). MadeBelow o key.journal.value.entries key.seats z) (sym journal_is)
           (record { rest = ok.made.rest; begins = ok.made.begins; below = λ n e at. let b = ok.made.below n e at in omega (arith, few) })
 
-      pub seat_saw : (s : SeatView T E) → Knew v (known s.me.0.at) → SawOf o book.entries s
+      pub seat_saw : (s : SeatView T E K) → Knew v (known s.me.0.at) → SawOf o book.entries s
       seat_saw s k = let r = right (known s.me.0.at) k in subst (λ (z : List E). SawOf o z s) (sym journal_is) (record { seen = r.0; mine = r.1 })
 
 -- the parts and the journal that were taken out are those of the machine's last state
-pub record IsWhole {T E R : Type 0} (o : Object T E R) (bare : T → T) (table : TableView E) (seats : List (SeatView T E)) (parts : List T) (book : JournalView E) : Type 0 where
+pub record IsWhole {T E R K : Type 0} (o : Object T E R) (bare : T → T) (tells : K → Told E) (table : TableView E) (seats : List (SeatView T E K)) (parts : List T) (book : JournalView E) (keeper : K) : Type 0 where
   pub parts_are_replay : map bare parts ≡ replay o book.entries
   pub limits_stay : book.limits ≡ table.limits
   pub fit : AllFit o book.entries
+  pub keeps : AreKept (tells keeper).kept book.entries
   pub made : MadeBelow o table.opening table.seats book.entries
-  pub saw : (k : ℕ) (s : SeatView T E) → slice_get seats k ≡ std.Some s → SawOf o book.entries s
+  pub saw : (k : ℕ) (s : SeatView T E K) → slice_get seats k ≡ std.Some s → SawOf o book.entries s
 
 -- what lies in the slots at the end
-pub record IsLeft {T E R : Type 0} (o : Object T E R) (bare : T → T) (table : TableView E) (seats : List (SeatView T E)) (xs : List (Slot T E)) : Type 0 where
+pub record IsLeft {T E R K : Type 0} (o : Object T E R) (bare : T → T) (tells : K → Told E) (table : TableView E) (seats : List (SeatView T E K)) (xs : List (Slot T E K)) : Type 0 where
   pub parts_lie : (k : ℕ) → k < 64 → (y : T) × (get_elem? xs k ≡ some (Part y))
-  pub book_lies : (b : JournalView E) × (get_elem? xs 64 ≡ some (Book b))
-  pub whole : (parts : List T) (book : JournalView E) → AreTakenOut xs parts book → IsWhole o bare table seats parts book
+  pub book_lies : (b : JournalView E) × (c : K) × (get_elem? xs 64 ≡ some (Book b c))
+  pub whole : (parts : List T) (book : JournalView E) (keeper : K) → AreTakenOut xs parts book keeper → IsWhole o bare tells table seats parts book keeper
 
-module _ {T E R : Type 0} (o : Object T E R) (lawful : IsLawful o) (bare : T → T) (key : Opening E) (tid : TableId) where
-  pub is_left : (table : TableView E) (id : ℕ) (v : View T E) (ws : List ℕ) (xs : List (Slot T E)) (seats : List (SeatView T E)) → table_of tid key ≡ table
-      → Final (Seen (Ruled o bare key) id v) ws xs → IsResting v.at → AreEverySeat table seats
-      → ((k : ℕ) (s : SeatView T E) → slice_get seats k ≡ std.Some s → Knew v (known s.me.0.at)) → IsLeft o bare table seats xs
+module _ {T E R K : Type 0} (o : Object T E R) (lawful : IsLawful o) (bare : T → T) (tells : K → Told E) (key : Opening E K) (tid : TableId) where
+  pub is_left : (table : TableView E) (id : ℕ) (v : View T E) (ws : List ℕ) (xs : List (Slot T E K)) (seats : List (SeatView T E K)) → table_of tells tid key ≡ table
+      → Final (Seen (Ruled o bare tells key) id v) ws xs → IsResting v.at → AreEverySeat table seats
+      → ((k : ℕ) (s : SeatView T E K) → slice_get seats k ≡ std.Some s → Knew v (known s.me.0.at)) → IsLeft o bare tells table seats xs
   is_left table id v ws xs seats same final rest each knew =
       let t = final.0 in
       let ruled = final.1.0 in
@@ -175,14 +178,15 @@ module _ {T E R : Type 0} (o : Object T E R) (lawful : IsLawful o) (bare : T →
       let all = subst (λ (z : TableView E). AreEverySeat z seats) (sym same) each in
       let every : (n : ℕ) → n < key.seats → (p : Known E) × (p.number ≡ n) × Knew v p =
       λ n h. let e = all.every n h in (known e.1.me.0.at, e.3, knew e.0 e.1 e.2) in
-      subst (λ (z : TableView E). IsLeft o bare z seats xs) same (record {
-        parts_lie = λ k h. let p = part_left o lawful bare key t ruled id v here rest every xs final.4 k h in (p.0, p.1);
-        book_lies = let b = book_left o lawful bare key t ruled id v here rest every xs final.4 in (b.0, b.1);
-        whole = λ parts book out. record {
-          parts_are_replay = parts_are o lawful bare key t ruled id v here rest every xs final.4 parts book out;
-          limits_stay = limits_are o lawful bare key t ruled id v here rest every xs final.4 parts book out;
-          fit = entries_fit o lawful bare key t ruled id v here rest every xs final.4 parts book out;
-          made = entries_made o lawful bare key t ruled id v here rest every xs final.4 parts book out;
-          saw = λ k s at. seat_saw o lawful bare key t ruled id v here rest every xs final.4 parts book out s (knew k s at);
+      subst (λ (z : TableView E). IsLeft o bare tells z seats xs) same (record {
+        parts_lie = λ k h. let p = part_left o lawful bare tells key t ruled id v here rest every xs final.4 k h in (p.0, p.1);
+        book_lies = let b = book_left o lawful bare tells key t ruled id v here rest every xs final.4 in (b.0, b.1, b.2);
+        whole = λ parts book keeper out. record {
+          parts_are_replay = parts_are o lawful bare tells key t ruled id v here rest every xs final.4 parts book keeper out;
+          limits_stay = limits_are o lawful bare tells key t ruled id v here rest every xs final.4 parts book keeper out;
+          fit = entries_fit o lawful bare tells key t ruled id v here rest every xs final.4 parts book keeper out;
+          keeps = keeper_keeps o lawful bare tells key t ruled id v here rest every xs final.4 parts book keeper out;
+          made = entries_made o lawful bare tells key t ruled id v here rest every xs final.4 parts book keeper out;
+          saw = λ k s at. seat_saw o lawful bare tells key t ruled id v here rest every xs final.4 parts book keeper out s (knew k s at);
         };
       })

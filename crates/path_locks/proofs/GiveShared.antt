@@ -13,6 +13,7 @@ use Rattle.lock_core.specs.Lists.{elem-set_same}
 use Rattle.lock_core.proofs.Totals.{elem_within, elem-map, total_at}
 use Rattle.lock_core.proofs.Columns.{live_elem}
 use Rattle.lock_core.proofs.UnlockShared.{unlock_shared_keeps}
+use Rattle.commit_journal.specs.Keeper.{Told}
 use Rattle.atomic_table.specs.Table.{Me, keeps, step, Allows}
 use Rattle.path_locks.specs.declared.rule.Slot.{Slot}
 use Rattle.path_locks.specs.declared.rule.View.{View}
@@ -20,6 +21,7 @@ use Rattle.path_locks.specs.declared.rule.Opening.{Opening}
 use Rattle.path_locks.specs.Rule.{Ruled}
 use Rattle.path_locks.specs.Plays.{with_stripe, MayGive, gave_shared}
 use Rattle.path_locks.proofs.Shown.{seat_of_view, word_is, shown_after, views_after, stands_at}
+use Rattle.path_locks.proofs.Kept.{kept_after}
 use mathlib.Core.Option.{none}
 
 -- one less, as the word counts
@@ -49,9 +51,9 @@ module _ {T E R : Type 0} (o : Object T E R) where
       let c = (ok.stripes s h).counts.counted in
       omega arith
 
-  module _ (bare : T → T) (key : Opening E) where
-    pub may_give_shared : (slots id : ℕ) (me : Me (Slot T E) (View T E)) (s : ℕ) → s < 64 → MayGive mode.Shared me.0.at s
-        → Allows (Ruled o bare key) slots id me s (λ n. (n + (2 ^ 64 - 1)) % 2 ^ 64) (gave_shared o (step slots s 1 0 none) me)
+  module _ {K : Type 0} (bare : T → T) (tells : K → Told E) (key : Opening E K) where
+    pub may_give_shared : (slots id : ℕ) (me : Me (Slot T E K) (View T E)) (s : ℕ) → s < 64 → MayGive mode.Shared me.0.at s
+        → Allows (Ruled o bare tells key) slots id me s (λ n. (n + (2 ^ 64 - 1)) % 2 ^ 64) (gave_shared o (step slots s 1 0 none) me)
     may_give_shared slots id me s h may t ruled long here small =
         let m = ruled.0 in
         let sh = ruled.1 in
@@ -71,4 +73,4 @@ module _ {T E R : Type 0} (o : Object T E R) where
         let views = views_after bare key m.journal t.views id me.0 w here refl refl refl may.quiet.live ruled.2 in
         let there = elem-set_same t.views id w (elem_within t.views id me.0 here) in
         let stands = stands_at bare o key m' ok' id w.at (seat_of_view bare key _ m' shows id w there) may.quiet.live in
-        (w, keeps, tt, (m', shows, views, ok'), record { view = refl; hand_is = refl; stands = stands })
+        (w, keeps, tt, (m', shows, views, ok', kept_after tells t ruled.4 _ t.homes refl id me.0 w here refl refl may.quiet.live refl), record { view = refl; hand_is = refl; stands = stands })

@@ -1,5 +1,5 @@
 -- The step that joins a seat into another.
-use Rattle.std.proofs.Common.{◌≡◌, ◌≢◌, ◌⊎◌, inl, inr, ℕ, zero, suc, ◌<◌, true, List, ◌∷◌, length, map, slice_set, ap, sym, ◌∙◌, subst, length-set, true≢false, arith}
+use Rattle.std.proofs.Common.{◌≡◌, ◌≢◌, ◌⊎◌, inl, inr, ℕ, zero, suc, ◌<◌, true, List, ◌∷◌, length, map, slice_set, refl, ap, sym, ◌∙◌, subst, length-set, true≢false, arith}
 use Rattle.lock_core.specs.declared.machine.Sitting.{Sitting}
 use Rattle.lock_core.specs.declared.machine.Event.TheVariants as event
 use Rattle.lock_core.specs.Object.{Object}
@@ -9,24 +9,26 @@ use Rattle.lock_core.specs.Sound.{StartsWith}
 use Rattle.lock_core.specs.Lists.{elem-set_other}
 use Rattle.lock_core.proofs.Totals.{map-set, at_set}
 use Rattle.lock_core.proofs.Join.{join_keeps}
+use Rattle.commit_journal.specs.Keeper.{Told}
 use Rattle.atomic_table.specs.Table.{Joins}
 use Rattle.path_locks.specs.declared.rule.View.{View}
 use Rattle.path_locks.specs.declared.rule.Opening.{Opening}
 use Rattle.path_locks.specs.Rule.{Shows, ViewOk, AreViews, Ruled}
 use Rattle.path_locks.specs.Plays.{IsResting, joined_view, spent_view}
 use Rattle.path_locks.proofs.Shown.{seat_of_view}
+use Rattle.path_locks.proofs.Kept.{kept_after, kept_gone}
 use mathlib.Core.Option.{some, some-injective}
 use lib.ListN.{get_elem?}
 
-module _ {T E : Type 0} where
-  both_ok : (key : Opening E) (h : List E) (v w : View T E) → ViewOk key h v → StartsWith h v.at.seen → ViewOk key h (joined_view v w)
+module _ {T E K : Type 0} where
+  both_ok : (key : Opening E K) (h : List E) (v w : View T E) → ViewOk key h v → StartsWith h v.at.seen → ViewOk key h (joined_view v w)
   both_ok key h v w k prefix = record { limits = k.limits; before = before_of }
     where
       before_of : (i : ℕ) (seen : List E) → get_elem? (v.at.seen ∷ v.before) i ≡ some seen → StartsWith h seen
       before_of zero seen e = subst (λ (z : List E). StartsWith h z) (some-injective v.at.seen seen e) prefix
       before_of (suc i) seen e = k.before i seen e
 
-  views_joined : (key : Opening E) (h : List E) (views : List (View T E)) (id other : ℕ) (v w : View T E) → get_elem? views id ≡ some v → v.at.live ≡ true
+  views_joined : (key : Opening E K) (h : List E) (views : List (View T E)) (id other : ℕ) (v w : View T E) → get_elem? views id ≡ some v → v.at.live ≡ true
       → StartsWith h v.at.seen → AreViews key h views → AreViews key h (slice_set (slice_set views id (joined_view v w)) other spent_view)
   views_joined key h views id other v w here live prefix ok = record {
     few = let l = long in omega (arith, ok.few);
@@ -58,8 +60,8 @@ module _ {T E : Type 0} where
       each_out j z (inl p) alive = absurd (true≢false (sym alive ∙ ap (λ (y : View T E). y.at.live) (sym p.1)))
       each_out j z (inr p) alive = each_in j z (at_set views id j (joined_view v w) z p.1) alive
 
-module _ {T E R : Type 0} (o : Object T E R) (bare : T → T) (key : Opening E) where
-  pub may_join : (id other : ℕ) (v w : View T E) → IsResting v.at → IsResting w.at → Joins (Ruled o bare key) id v other w (joined_view v w) spent_view
+module _ {T E R K : Type 0} (o : Object T E R) (bare : T → T) (tells : K → Told E) (key : Opening E K) where
+  pub may_join : (id other : ℕ) (v w : View T E) → IsResting v.at → IsResting w.at → Joins (Ruled o bare tells key) id v other w (joined_view v w) spent_view
   may_join id other v w rest_v rest_w t ruled here ne there =
       let m = ruled.0 in
       let sh = ruled.1 in
@@ -87,4 +89,5 @@ module _ {T E R : Type 0} (o : Object T E R) (bare : T → T) (key : Opening E) 
         shows,
         views_joined key m.journal t.views id other v w here rest_v.live prefix vs,
         join_keeps o key.journal.value.entries m other id ok (((rests_w.live, rests_v.live, ne)), ((rests_w.idle, rests_v.idle), tt)),
+        kept_gone tells _ (kept_after tells t ruled.4 t.words t.homes refl id v (joined_view v w) here refl refl rest_v.live refl) other spent_view refl refl,
       )

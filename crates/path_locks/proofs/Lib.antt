@@ -3,11 +3,13 @@ pub mod Below
 pub mod Betweens
 pub mod Closing
 pub mod Commits
+pub mod Extended
 pub mod GiveExclusive
 pub mod GiveJournal
 pub mod GiveShared
 pub mod Joined
 pub mod JoinSeat
+pub mod Kept
 pub mod Latches
 pub mod Looks
 pub mod MakeSeat

@@ -6,8 +6,10 @@ use Rattle.lock_core.specs.Object.{Object}
 use Rattle.lock_core.specs.Machine as machine
 use Rattle.lock_core.specs.Machine.{LockState, plain, hold_at, note_of, seat_at, newcomer, IsAllowed}
 use Rattle.lock_core.specs.Sound.{AllFit}
-use Rattle.lock_core.proofs.Totals.{elem-map, map-set, set_again, at_set, at_snoc}
+use Rattle.lock_core.specs.Lists.{elem-set_same}
+use Rattle.lock_core.proofs.Totals.{elem_within, elem-map, map-set, set_again, at_set, at_snoc}
 use Rattle.lock_core.proofs.Split.{split_keeps, hold_at-free, length-free}
+use Rattle.commit_journal.specs.Keeper.{Told}
 use Rattle.atomic_table.specs.Table.{Splits}
 use Rattle.path_locks.specs.declared.rule.View.{View}
 use Rattle.path_locks.specs.declared.rule.Opening.{Opening}
@@ -15,6 +17,7 @@ use Rattle.path_locks.specs.Rule.{Shows, ViewOk, AreViews, Ruled}
 use Rattle.path_locks.specs.Plays.{made_another, new_view}
 use Rattle.path_locks.specs.Stands.{Stands}
 use Rattle.path_locks.proofs.Shown.{seat_of_view}
+use Rattle.path_locks.proofs.Kept.{kept_after, kept_new}
 use mathlib.Core.Option.{some, some-ne-none}
 use mathlib.Core.List.{map-append}
 use lib.ListN.{get_elem?, length-map}
@@ -33,8 +36,8 @@ module _ {T E R : Type 0} (o : Object T E R) where
     notes = λ k x h e. absurd (some-ne-none x (sym e ∙ ap note_of (hold_at-free k)));
   }
 
-  module _ (bare : T → T) (key : Opening E) where
-    pub may_split : (id : ℕ) (v : View T E) → 0 < v.made → v.made < key.seats → v.at.live ≡ true → Splits (Ruled o bare key) id v (made_another v) (new_view o v)
+  module _ {K : Type 0} (bare : T → T) (tells : K → Told E) (key : Opening E K) where
+    pub may_split : (id : ℕ) (v : View T E) → 0 < v.made → v.made < key.seats → v.at.live ≡ true → Splits (Ruled o bare tells key) id v (made_another v) (new_view o v)
     may_split id v pos room live t ruled here =
         let m = ruled.0 in
         let sh = ruled.1 in
@@ -69,6 +72,8 @@ module _ {T E R : Type 0} (o : Object T E R) where
             each = λ j z at alive'. each_of vs j z (at_snoc mid right z j at) alive';
           },
           split_keeps o key.journal.value.entries m id ok (alive, tt),
+          kept_new tells _ (kept_after tells t ruled.4 t.words t.homes refl id v left here refl refl live refl) id left right
+              (elem-set_same t.views id left (elem_within t.views id v here)) live refl refl,
         )
       where
         by_place : AreViews key (ruled.0).journal t.views → (id ≡ 0) × (v.made ≡ length t.views) → length (slice_set t.views id (made_another v) ++ new_view o v ∷ []) ≡ length t.views + 1

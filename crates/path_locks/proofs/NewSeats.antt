@@ -7,6 +7,7 @@ use Rattle.lock_core.specs.Object.{Object}
 use Rattle.lock_core.specs.Machine.{HeldIn, IsIdle, newcomer}
 use Rattle.lock_core.specs.Sound.{AllFit}
 use Rattle.lock_core.proofs.Split.{hold_at-free}
+use Rattle.commit_journal.specs.Keeper.{Told}
 use Rattle.atomic_table.specs.Table.{Me}
 use Rattle.atomic_table.specs.Seated.{TableId}
 use Rattle.path_locks.specs.declared.rule.Slot.{Slot}
@@ -25,22 +26,22 @@ module _ {T E R : Type 0} (o : Object T E R) where
   idle_new : (n : ℕ) (seen : List E) → IsIdle (newcomer o n seen)
   idle_new n seen = record { no_hold = λ k. subst (λ (z : Hold T). HeldIn mode.None z) (sym (hold_at-free k)) tt; no_latch = refl; no_journal = refl }
 
-  module _ (key : Opening E) where
+  module _ {K : Type 0} (tells : K → Told E) (key : Opening E K) where
     -- the view of the first seat tells what the seat is that it makes
-    new_me : (me me' : Me (Slot T E) (View T E)) → me ≡ (counting (first_view o key) me.0.made, []) → me' ≡ (new_view o me.0, [])
-        → me' ≡ (new_view o (counting (first_view o key) me.0.made), [])
-    new_me me me' e f = f ∙ ap (λ (z : Me (Slot T E) (View T E)). let r : Me (Slot T E) (View T E) = (new_view o z.0, []) in r) e
+    new_me : (me me' : Me (Slot T E K) (View T E)) → me ≡ (counting (first_view o tells key) me.0.made, []) → me' ≡ (new_view o me.0, [])
+        → me' ≡ (new_view o (counting (first_view o tells key) me.0.made), [])
+    new_me me me' e f = f ∙ ap (λ (z : Me (Slot T E K) (View T E)). let r : Me (Slot T E K) (View T E) = (new_view o z.0, []) in r) e
 
-    pub new_stands : (me me' : Me (Slot T E) (View T E)) → AllFit o key.journal.value.entries → me ≡ (counting (first_view o key) me.0.made, []) → me' ≡ (new_view o me.0, [])
+    pub new_stands : (me me' : Me (Slot T E K) (View T E)) → AllFit o key.journal.value.entries → me ≡ (counting (first_view o tells key) me.0.made, []) → me' ≡ (new_view o me.0, [])
         → IsBetween o me'
-    new_stands me me' fits e f = subst (λ (z : Me (Slot T E) (View T E)). IsBetween o z) (sym (new_me me me' e f))
+    new_stands me me' fits e f = subst (λ (z : Me (Slot T E K) (View T E)). IsBetween o z) (sym (new_me me me' e f))
         (between_idle o _ (stands_new o me.0.made key.journal.value.entries fits) (idle_new me.0.made key.journal.value.entries) refl)
 
-    pub new_seat : (id table : TableId) (place : ℕ) (me me' : Me (Slot T E) (View T E)) (room : List (std.Option T)) → table ≡ id → me ≡ (counting (first_view o key) me.0.made, [])
+    pub new_seat : (id table : TableId) (place : ℕ) (me me' : Me (Slot T E K) (View T E)) (room : List (std.Option T)) → table ≡ id → me ≡ (counting (first_view o tells key) me.0.made, [])
         → me' ≡ (new_view o me.0, []) → room ≡ replicate 64 std.None
-        → IsNewSeat o (table_of id key) me.0.made (record { table = table; id = place; me = me'; room = room })
+        → IsNewSeat o (table_of tells id key) me.0.made (record { table = table; id = place; me = me'; room = room })
     new_seat id table place me me' room own e f empty =
-        subst (λ (z : Me (Slot T E) (View T E)). IsNewSeat o (table_of id key) me.0.made (record { table = table; id = place; me = z; room = room })) (sym (new_me me me' e f))
+        subst (λ (z : Me (Slot T E K) (View T E)). IsNewSeat o (table_of tells id key) me.0.made (record { table = table; id = place; me = z; room = room })) (sym (new_me me me' e f))
         (record {
           own = own;
           number = refl;
@@ -54,14 +55,14 @@ module _ {T E R : Type 0} (o : Object T E R) where
         })
 
     -- the first seat itself
-    pub first_stands : (n : ℕ) (me : Me (Slot T E) (View T E)) → AllFit o key.journal.value.entries → me ≡ (counting (first_view o key) n, []) → IsBetween o me
-    first_stands n me fits e = subst (λ (z : Me (Slot T E) (View T E)). IsBetween o z) (sym e)
+    pub first_stands : (n : ℕ) (me : Me (Slot T E K) (View T E)) → AllFit o key.journal.value.entries → me ≡ (counting (first_view o tells key) n, []) → IsBetween o me
+    first_stands n me fits e = subst (λ (z : Me (Slot T E K) (View T E)). IsBetween o z) (sym e)
         (between_idle o _ (stands_new o 0 key.journal.value.entries fits) (idle_new 0 key.journal.value.entries) refl)
 
-    pub first_seat : (id table : TableId) (place n : ℕ) (me : Me (Slot T E) (View T E)) (room : List (std.Option T)) → table ≡ id → me ≡ (counting (first_view o key) n, [])
-        → room ≡ replicate 64 std.None → IsNewSeat o (table_of id key) 0 (record { table = table; id = place; me = me; room = room })
+    pub first_seat : (id table : TableId) (place n : ℕ) (me : Me (Slot T E K) (View T E)) (room : List (std.Option T)) → table ≡ id → me ≡ (counting (first_view o tells key) n, [])
+        → room ≡ replicate 64 std.None → IsNewSeat o (table_of tells id key) 0 (record { table = table; id = place; me = me; room = room })
     first_seat id table place n me room own e empty =
-        subst (λ (z : Me (Slot T E) (View T E)). IsNewSeat o (table_of id key) 0 (record { table = table; id = place; me = z; room = room })) (sym e)
+        subst (λ (z : Me (Slot T E K) (View T E)). IsNewSeat o (table_of tells id key) 0 (record { table = table; id = place; me = z; room = room })) (sym e)
         (record {
           own = own;
           number = refl;
@@ -117,38 +118,38 @@ module _ {A B : Type 0} where
           let h = cons-head (f y) b (map f (ys ++ x ∷ [])) (replicate n b) q in
           ((λ i. h i ∷ t.0 i), t.1, omega (arith, t.2))
 
-module _ {T E R : Type 0} (o : Object T E R) (key : Opening E) (id : TableId) where
+module _ {T E R K : Type 0} (o : Object T E R) (tells : K → Told E) (key : Opening E K) (id : TableId) where
   -- one more seat is made
-  pub made_seats : (seats : List (SeatView T E)) (seat : SeatView T E) (n : ℕ) → n ≡ length seats + 1
-      → ((k : ℕ) (s : SeatView T E) → slice_get seats k ≡ std.Some s → IsNewSeat o (table_of id key) (k + 1) s) → IsNewSeat o (table_of id key) n seat
-      → (k : ℕ) (s : SeatView T E) → slice_get (seats ++ seat ∷ []) k ≡ std.Some s → IsNewSeat o (table_of id key) (k + 1) s
+  pub made_seats : (seats : List (SeatView T E K)) (seat : SeatView T E K) (n : ℕ) → n ≡ length seats + 1
+      → ((k : ℕ) (s : SeatView T E K) → slice_get seats k ≡ std.Some s → IsNewSeat o (table_of tells id key) (k + 1) s) → IsNewSeat o (table_of tells id key) n seat
+      → (k : ℕ) (s : SeatView T E K) → slice_get (seats ++ seat ∷ []) k ≡ std.Some s → IsNewSeat o (table_of tells id key) (k + 1) s
   made_seats seats seat n e each new k s at = ⊎_elim (λ p. each k s p)
       (λ p. let same : n ≡ k + 1 = omega (arith, p.0) in
-      subst (λ (i : ℕ). IsNewSeat o (table_of id key) i s) same (subst (λ (z : SeatView T E). IsNewSeat o (table_of id key) n z) p.1 new)) (get_snoc seats seat k s at)
+      subst (λ (i : ℕ). IsNewSeat o (table_of tells id key) i s) same (subst (λ (z : SeatView T E K). IsNewSeat o (table_of tells id key) n z) p.1 new)) (get_snoc seats seat k s at)
 
   -- the first seat goes before the others
-  pub seats_in_order : (seats all : List (SeatView T E)) (seat : SeatView T E) → all ≡ seat ∷ seats
-      → ((k : ℕ) (s : SeatView T E) → slice_get seats k ≡ std.Some s → IsNewSeat o (table_of id key) (k + 1) s) → IsNewSeat o (table_of id key) 0 seat
-      → (k : ℕ) (s : SeatView T E) → slice_get all k ≡ std.Some s → IsNewSeat o (table_of id key) k s
-  seats_in_order seats all seat e each new k s at = by_place k (ap (λ (l : List (SeatView T E)). slice_get l k) (sym e) ∙ at)
+  pub seats_in_order : (seats all : List (SeatView T E K)) (seat : SeatView T E K) → all ≡ seat ∷ seats
+      → ((k : ℕ) (s : SeatView T E K) → slice_get seats k ≡ std.Some s → IsNewSeat o (table_of tells id key) (k + 1) s) → IsNewSeat o (table_of tells id key) 0 seat
+      → (k : ℕ) (s : SeatView T E K) → slice_get all k ≡ std.Some s → IsNewSeat o (table_of tells id key) k s
+  seats_in_order seats all seat e each new k s at = by_place k (ap (λ (l : List (SeatView T E K)). slice_get l k) (sym e) ∙ at)
     where
-      by_place : (k : ℕ) → slice_get (seat ∷ seats) k ≡ std.Some s → IsNewSeat o (table_of id key) k s
-      by_place zero q = subst (λ (z : SeatView T E). IsNewSeat o (table_of id key) 0 z) (some_inj seat s q) new
-      by_place (suc k) q = let next : k + 1 ≡ suc k = omega arith in subst (λ (i : ℕ). IsNewSeat o (table_of id key) i s) next (each k s q)
+      by_place : (k : ℕ) → slice_get (seat ∷ seats) k ≡ std.Some s → IsNewSeat o (table_of tells id key) k s
+      by_place zero q = subst (λ (z : SeatView T E K). IsNewSeat o (table_of tells id key) 0 z) (some_inj seat s q) new
+      by_place (suc k) q = let next : k + 1 ≡ suc k = omega arith in subst (λ (i : ℕ). IsNewSeat o (table_of tells id key) i s) next (each k s q)
 
   -- the count of the first seat
-  pub first_counts : (me : Me (Slot T E) (View T E)) (n : ℕ) → n ≡ 1 → me ≡ (first_view o key, []) → me ≡ (counting (first_view o key) n, [])
-  first_counts me n e f = f ∙ ap (λ (k : ℕ). let r : Me (Slot T E) (View T E) = (counting (first_view o key) k, []) in r) (sym e)
+  pub first_counts : (me : Me (Slot T E K) (View T E)) (n : ℕ) → n ≡ 1 → me ≡ (first_view o tells key, []) → me ≡ (counting (first_view o tells key) n, [])
+  first_counts me n e f = f ∙ ap (λ (k : ℕ). let r : Me (Slot T E K) (View T E) = (counting (first_view o tells key) k, []) in r) (sym e)
 
-  pub next_counts : (me me' : Me (Slot T E) (View T E)) (m n : ℕ) → me ≡ (counting (first_view o key) m, []) → me' ≡ (counting (first_view o key) (me.0.made + 1), []) → n ≡ m + 1
-      → me' ≡ (counting (first_view o key) n, [])
+  pub next_counts : (me me' : Me (Slot T E K) (View T E)) (m n : ℕ) → me ≡ (counting (first_view o tells key) m, []) → me' ≡ (counting (first_view o tells key) (me.0.made + 1), []) → n ≡ m + 1
+      → me' ≡ (counting (first_view o tells key) n, [])
   next_counts me me' m n e f s =
-      let made : me.0.made ≡ m = ap (λ (z : Me (Slot T E) (View T E)). z.0.made) e in
-      f ∙ ap (λ (k : ℕ). let r : Me (Slot T E) (View T E) = (counting (first_view o key) k, []) in r) (ap (λ (k : ℕ). k + 1) made ∙ sym s)
+      let made : me.0.made ≡ m = ap (λ (z : Me (Slot T E K) (View T E)). z.0.made) e in
+      f ∙ ap (λ (k : ℕ). let r : Me (Slot T E K) (View T E) = (counting (first_view o tells key) k, []) in r) (ap (λ (k : ℕ). k + 1) made ∙ sym s)
 
-  pub new_is : (me : Me (Slot T E) (View T E)) (m : ℕ) (s : SeatView T E) → me ≡ (counting (first_view o key) m, []) → IsNewSeat o (table_of id key) me.0.made s
-      → IsNewSeat o (table_of id key) m s
-  new_is me m s e new = subst (λ (k : ℕ). IsNewSeat o (table_of id key) k s) (ap (λ (z : Me (Slot T E) (View T E)). z.0.made) e) new
+  pub new_is : (me : Me (Slot T E K) (View T E)) (m : ℕ) (s : SeatView T E K) → me ≡ (counting (first_view o tells key) m, []) → IsNewSeat o (table_of tells id key) me.0.made s
+      → IsNewSeat o (table_of tells id key) m s
+  new_is me m s e new = subst (λ (k : ℕ). IsNewSeat o (table_of tells id key) k s) (ap (λ (z : Me (Slot T E K) (View T E)). z.0.made) e) new
 
-  pub no_seats : (seats : List (SeatView T E)) → seats ≡ [] → (k : ℕ) (s : SeatView T E) → slice_get seats k ≡ std.Some s → IsNewSeat o (table_of id key) (k + 1) s
-  no_seats seats e k s at = absurd (none-some s (ap (λ (l : List (SeatView T E)). slice_get l k) (sym e) ∙ at))
+  pub no_seats : (seats : List (SeatView T E K)) → seats ≡ [] → (k : ℕ) (s : SeatView T E K) → slice_get seats k ≡ std.Some s → IsNewSeat o (table_of tells id key) (k + 1) s
+  no_seats seats e k s at = absurd (none-some s (ap (λ (l : List (SeatView T E K)). slice_get l k) (sym e) ∙ at))

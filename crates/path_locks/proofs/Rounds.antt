@@ -31,35 +31,36 @@ module _ {A : Type 0} where
   get_some (x ∷ xs) (suc k) h = get_some xs k (omega arith)
 
 module _ {T E : Type 0} where
-  -- the slot of the lowest stripe comes last
-  span_more : (n c : ℕ) (hs : List (Hold T)) → span {T = T} {E = E} n (suc c) hs ≡ span (n + 1) c hs ++ with_empty n (hold_at hs n) []
-  span_more n zero hs =
-      let e : n + 0 ≡ n = omega arith in
-      ap (λ (i : ℕ). with_empty {T = T} {E = E} i (hold_at hs i) []) e
-  span_more n (suc c) hs =
-      let e : n + suc c ≡ n + 1 + c = omega arith in
-      let b = span_more n c hs in
-      (λ i. with_empty {T = T} {E = E} (e i) (hold_at hs (e i)) (b i)) ∙ behind (n + 1 + c) (hold_at hs (n + 1 + c)) (span (n + 1) c hs) (with_empty n (hold_at hs n) [])
-    where
-      behind : (k : ℕ) (h : Hold T) (xs ys : List (ℕ × Slot T E)) → with_empty k h (xs ++ ys) ≡ with_empty k h xs ++ ys
-      behind k Free xs ys = refl
-      behind k Shared xs ys = refl
-      behind k (Looked x) xs ys = refl
-      behind k (Exclusive x) xs ys = refl
+  module _ {K : Type 0} where
+    -- the slot of the lowest stripe comes last
+    span_more : (n c : ℕ) (hs : List (Hold T)) → span {T = T} {E = E} {K = K} n (suc c) hs ≡ span (n + 1) c hs ++ with_empty n (hold_at hs n) []
+    span_more n zero hs =
+        let e : n + 0 ≡ n = omega arith in
+        ap (λ (i : ℕ). with_empty {T = T} {E = E} {K = K} i (hold_at hs i) []) e
+    span_more n (suc c) hs =
+        let e : n + suc c ≡ n + 1 + c = omega arith in
+        let b = span_more n c hs in
+        (λ i. with_empty {T = T} {E = E} {K = K} (e i) (hold_at hs (e i)) (b i)) ∙ behind (n + 1 + c) (hold_at hs (n + 1 + c)) (span (n + 1) c hs) (with_empty n (hold_at hs n) [])
+      where
+        behind : (k : ℕ) (h : Hold T) (xs ys : List (ℕ × Slot T E K)) → with_empty k h (xs ++ ys) ≡ with_empty k h xs ++ ys
+        behind k Free xs ys = refl
+        behind k Shared xs ys = refl
+        behind k (Looked x) xs ys = refl
+        behind k (Exclusive x) xs ys = refl
 
-  span_same : (n c : ℕ) (hs hs' : List (Hold T)) → ((k : ℕ) → n ≤ k → hold_at hs k ≡ hold_at hs' k) → span {T = T} {E = E} n c hs ≡ span n c hs'
-  span_same n zero hs hs' e = refl
-  span_same n (suc c) hs hs' e =
-      let a = e (n + c) (omega arith) in
-      let b = span_same n c hs hs' e in
-      λ i. with_empty (n + c) (a i) (b i)
+    span_same : (n c : ℕ) (hs hs' : List (Hold T)) → ((k : ℕ) → n ≤ k → hold_at hs k ≡ hold_at hs' k) → span {T = T} {E = E} {K = K} n c hs ≡ span n c hs'
+    span_same n zero hs hs' e = refl
+    span_same n (suc c) hs hs' e =
+        let a = e (n + c) (omega arith) in
+        let b = span_same n c hs hs' e in
+        λ i. with_empty (n + c) (a i) (b i)
 
-  span_all : (c : ℕ) (hs : List (Hold T)) → span {T = T} {E = E} 0 c hs ≡ empties c hs
-  span_all zero hs = refl
-  span_all (suc c) hs =
-      let e : 0 + c ≡ c = omega arith in
-      let b = span_all c hs in
-      λ i. with_empty {T = T} {E = E} (e i) (hold_at hs (e i)) (b i)
+    span_all : (c : ℕ) (hs : List (Hold T)) → span {T = T} {E = E} {K = K} 0 c hs ≡ empties c hs
+    span_all zero hs = refl
+    span_all (suc c) hs =
+        let e : 0 + c ≡ c = omega arith in
+        let b = span_all c hs in
+        λ i. with_empty {T = T} {E = E} {K = K} (e i) (hold_at hs (e i)) (b i)
 
   -- one stripe is left as this mode keeps it
   pub narrowed_at : (v w : View T E) (n : ℕ) (h : Hold T) (m : LockMode) → n < length v.at.holds → h ≡ narrowed m (hold_at v.at.holds n) → w ≡ with_stripe v n h → IsNarrowedAt n m v w
@@ -72,19 +73,19 @@ module _ {T E : Type 0} where
   pub narrowed_not : (v w : View T E) (n : ℕ) (m : LockMode) → hold_at v.at.holds n ≡ narrowed m (hold_at v.at.holds n) → w ≡ v → IsNarrowedAt n m v w
   narrowed_not v w n m is e = subst (λ (z : View T E). IsNarrowedAt n m v z) (sym e) (record { same = refl; there = is; others = λ k ne. refl })
 
-  module _ {R : Type 0} (o : Object T E R) (bare : T → T) where
-    module _ (n : ℕ) (me me' : Me (Slot T E) (View T E)) (parts : List (std.Option T)) (below : n < 64) (b : IsRound o bare (n + 1) me parts) where
-      lower : List (ℕ × Slot T E)
+  module _ {K : Type 0} {R : Type 0} (o : Object T E R) (bare : T → T) where
+    module _ (n : ℕ) (me me' : Me (Slot T E K) (View T E)) (parts : List (std.Option T)) (below : n < 64) (b : IsRound o bare (n + 1) me parts) where
+      lower : List (ℕ × Slot T E K)
       lower = empties n me.0.at.holds
 
-      upper : List (ℕ × Slot T E)
+      upper : List (ℕ × Slot T E K)
       upper = span (n + 1) (63 - n) me.0.at.holds
 
       hand_now : me.1 ≡ with_empty n (hold_at me.0.at.holds n) lower ++ upper
       unfolding lower upper
       hand_now =
           let c : 64 - (n + 1) ≡ 63 - n = omega arith in
-          let e = empties_next {T = T} {E = E} n me.0.at.holds in
+          let e = empties_next {T = T} {E = E} {K = K} n me.0.at.holds in
           b.hand_is ∙ (λ i. e i ++ span (n + 1) (c i) me.0.at.holds)
 
       round_next : (parts' : List (std.Option T)) → IsQuiet me'.0.at → ((k : ℕ) → k ≢ n → hold_at me'.0.at.holds k ≡ hold_at me.0.at.holds k)
@@ -92,10 +93,10 @@ module _ {T E : Type 0} where
       unfolding lower upper
       round_next parts' quiet others hand room out stands =
           let c : 64 - n ≡ suc (63 - n) = omega arith in
-          let low = empties_same {T = T} {E = E} n me'.0.at.holds me.0.at.holds (λ k l. others k (λ e. omega arith)) in
+          let low = empties_same {T = T} {E = E} {K = K} n me'.0.at.holds me.0.at.holds (λ k l. others k (λ e. omega arith)) in
           let up = span_same (n + 1) (63 - n) me'.0.at.holds me.0.at.holds (λ k l. others k (λ e. omega arith)) in
-          let more = ap (λ (i : ℕ). span {T = T} {E = E} n i me'.0.at.holds) c ∙ span_more n (63 - n) me'.0.at.holds
-          ∙ ap (λ (z : List (ℕ × Slot T E)). z ++ with_empty n (hold_at me'.0.at.holds n) []) up in
+          let more = ap (λ (i : ℕ). span {T = T} {E = E} {K = K} n i me'.0.at.holds) c ∙ span_more n (63 - n) me'.0.at.holds
+          ∙ ap (λ (z : List (ℕ × Slot T E K)). z ++ with_empty n (hold_at me'.0.at.holds n) []) up in
           record {
             quiet = quiet;
             hand_is = hand ∙ sym (λ i. low i ++ more i);
@@ -105,43 +106,43 @@ module _ {T E : Type 0} where
           }
 
       none_last : (h : Hold T) → HeldIn mode.Shared h → lower ++ upper ≡ lower ++ (upper ++ with_empty n h [])
-      none_last h p = ap (λ (z : List (ℕ × Slot T E)). lower ++ z) (sym (append-nil upper) ∙ ap (λ (z : List (ℕ × Slot T E)). upper ++ z) (sym (hand_shared o bare n h [] p)))
+      none_last h p = ap (λ (z : List (ℕ × Slot T E K)). lower ++ z) (sym (append-nil upper) ∙ ap (λ (z : List (ℕ × Slot T E K)). upper ++ z) (sym (hand_shared o bare n h [] p)))
 
       none_free : (h : Hold T) → h ≡ Free → lower ++ upper ≡ lower ++ (upper ++ with_empty n h [])
-      none_free h e = ap (λ (z : List (ℕ × Slot T E)). lower ++ z) (sym (append-nil upper) ∙ ap (λ (z : Hold T). upper ++ with_empty n z []) (sym e))
+      none_free h e = ap (λ (z : List (ℕ × Slot T E K)). lower ++ z) (sym (append-nil upper) ∙ ap (λ (z : Hold T). upper ++ with_empty n z []) (sym e))
 
       -- the stripe isn't held
       pub round_free : me' ≡ me → HeldIn mode.None (hold_at me.0.at.holds n) → IsRound o bare n me parts
       unfolding lower upper
       round_free e p =
           let free = free_is (hold_at me.0.at.holds n) p in
-          subst (λ (z : Me (Slot T E) (View T E)). IsRound o bare n z parts) e
-          (round_next parts (subst (λ (z : Me (Slot T E) (View T E)). IsQuiet z.0.at) (sym e) b.quiet) (λ k ne. ap (λ (z : Me (Slot T E) (View T E)). hold_at z.0.at.holds k) e)
-          (ap (λ (z : Me (Slot T E) (View T E)). z.1) e ∙ hand_now ∙ ap (λ (z : Hold T). with_empty n z lower ++ upper) free
-          ∙ none_free _ (ap (λ (z : Me (Slot T E) (View T E)). hold_at z.0.at.holds n) e ∙ free))
-          b.room (subst (λ (z : Me (Slot T E) (View T E)). AreOut bare z.0.at.holds parts) (sym e) b.out) (subst (λ (z : Me (Slot T E) (View T E)). Stands o z.0.at) (sym e) b.stands))
+          subst (λ (z : Me (Slot T E K) (View T E)). IsRound o bare n z parts) e
+          (round_next parts (subst (λ (z : Me (Slot T E K) (View T E)). IsQuiet z.0.at) (sym e) b.quiet) (λ k ne. ap (λ (z : Me (Slot T E K) (View T E)). hold_at z.0.at.holds k) e)
+          (ap (λ (z : Me (Slot T E K) (View T E)). z.1) e ∙ hand_now ∙ ap (λ (z : Hold T). with_empty n z lower ++ upper) free
+          ∙ none_free _ (ap (λ (z : Me (Slot T E K) (View T E)). hold_at z.0.at.holds n) e ∙ free))
+          b.room (subst (λ (z : Me (Slot T E K) (View T E)). AreOut bare z.0.at.holds parts) (sym e) b.out) (subst (λ (z : Me (Slot T E K) (View T E)). Stands o z.0.at) (sym e) b.stands))
 
       -- it stays held shared
       pub round_shared : me' ≡ me → HeldIn mode.Shared (hold_at me.0.at.holds n) → IsRound o bare n me parts
       unfolding lower upper
       round_shared e p =
-          subst (λ (z : Me (Slot T E) (View T E)). IsRound o bare n z parts) e
-          (round_next parts (subst (λ (z : Me (Slot T E) (View T E)). IsQuiet z.0.at) (sym e) b.quiet) (λ k ne. ap (λ (z : Me (Slot T E) (View T E)). hold_at z.0.at.holds k) e)
-          (ap (λ (z : Me (Slot T E) (View T E)). z.1) e ∙ hand_now ∙ ap (λ (z : List (ℕ × Slot T E)). z ++ upper) (hand_shared o bare n (hold_at me.0.at.holds n) lower p)
-          ∙ none_last _ (subst (λ (z : Me (Slot T E) (View T E)). HeldIn mode.Shared (hold_at z.0.at.holds n)) (sym e) p))
-          b.room (subst (λ (z : Me (Slot T E) (View T E)). AreOut bare z.0.at.holds parts) (sym e) b.out) (subst (λ (z : Me (Slot T E) (View T E)). Stands o z.0.at) (sym e) b.stands))
+          subst (λ (z : Me (Slot T E K) (View T E)). IsRound o bare n z parts) e
+          (round_next parts (subst (λ (z : Me (Slot T E K) (View T E)). IsQuiet z.0.at) (sym e) b.quiet) (λ k ne. ap (λ (z : Me (Slot T E K) (View T E)). hold_at z.0.at.holds k) e)
+          (ap (λ (z : Me (Slot T E K) (View T E)). z.1) e ∙ hand_now ∙ ap (λ (z : List (ℕ × Slot T E K)). z ++ upper) (hand_shared o bare n (hold_at me.0.at.holds n) lower p)
+          ∙ none_last _ (subst (λ (z : Me (Slot T E K) (View T E)). HeldIn mode.Shared (hold_at z.0.at.holds n)) (sym e) p))
+          b.room (subst (λ (z : Me (Slot T E K) (View T E)). AreOut bare z.0.at.holds parts) (sym e) b.out) (subst (λ (z : Me (Slot T E K) (View T E)). Stands o z.0.at) (sym e) b.stands))
 
       -- it stays held exclusively, and its slot goes behind the others
       pub round_exclusive : me' ≡ (me.0, turned me.1) → HeldIn mode.Exclusive (hold_at me.0.at.holds n) → IsRound o bare n me' parts
       unfolding lower upper
       round_exclusive e p =
-          let same : me'.0 ≡ me.0 = ap (λ (z : Me (Slot T E) (View T E)). z.0) e in
-          let first : me.1 ≡ (n, Empty) ∷ (lower ++ upper) = hand_now ∙ ap (λ (z : List (ℕ × Slot T E)). z ++ upper) (hand_exclusive o bare n (hold_at me.0.at.holds n) lower p) in
+          let same : me'.0 ≡ me.0 = ap (λ (z : Me (Slot T E K) (View T E)). z.0) e in
+          let first : me.1 ≡ (n, Empty) ∷ (lower ++ upper) = hand_now ∙ ap (λ (z : List (ℕ × Slot T E K)). z ++ upper) (hand_exclusive o bare n (hold_at me.0.at.holds n) lower p) in
           let last : with_empty n (hold_at me'.0.at.holds n) [] ≡ (n, Empty) ∷ [] =
           hand_exclusive o bare n (hold_at me'.0.at.holds n) [] (subst (λ (z : View T E). HeldIn mode.Exclusive (hold_at z.at.holds n)) (sym same) p) in
           round_next parts (subst (λ (z : View T E). IsQuiet z.at) (sym same) b.quiet) (λ k ne. ap (λ (z : View T E). hold_at z.at.holds k) same)
-          (ap (λ (z : Me (Slot T E) (View T E)). z.1) e ∙ ap (λ (z : List (ℕ × Slot T E)). turned z) first ∙ append_assoc lower upper ((n, Empty) ∷ [])
-          ∙ ap (λ (z : List (ℕ × Slot T E)). lower ++ (upper ++ z)) (sym last))
+          (ap (λ (z : Me (Slot T E K) (View T E)). z.1) e ∙ ap (λ (z : List (ℕ × Slot T E K)). turned z) first ∙ append_assoc lower upper ((n, Empty) ∷ [])
+          ∙ ap (λ (z : List (ℕ × Slot T E K)). lower ++ (upper ++ z)) (sym last))
           b.room (subst (λ (z : View T E). AreOut bare z.at.holds parts) (sym same) b.out) (subst (λ (z : View T E). Stands o z.at) (sym same) b.stands)
 
       -- a stripe that was held shared is given back
@@ -153,22 +154,22 @@ module _ {T E : Type 0} where
           let free : hold_at me'.0.at.holds n ≡ Free = ap (λ (z : List (Hold T)). hold_at z n) holds ∙ hold_at-set_same me.0.at.holds n Free wide in
           round_next parts (quiet_after me.0 me'.0 n Free t.view b.quiet)
           (λ k ne. ap (λ (z : List (Hold T)). hold_at z k) holds ∙ hold_at-set_other me.0.at.holds n k Free ne)
-          (t.hand_is ∙ hand_now ∙ ap (λ (z : List (ℕ × Slot T E)). z ++ upper) (hand_shared o bare n (hold_at me.0.at.holds n) lower p) ∙ none_free _ free)
+          (t.hand_is ∙ hand_now ∙ ap (λ (z : List (ℕ × Slot T E K)). z ++ upper) (hand_shared o bare n (hold_at me.0.at.holds n) lower p) ∙ none_free _ free)
           b.room (subst (λ (z : List (Hold T)). AreOut bare z parts) (sym holds) (out_keep bare me.0.at.holds parts n Free wide (shared_out o bare (hold_at me.0.at.holds n) p) b.out)) t.stands
 
       -- a stripe that was held exclusively is given back, or held shared from now on
-      pub round_gave_exclusive : (h : Hold T) (parts' : List (std.Option T)) → HeldIn mode.Exclusive (hold_at me.0.at.holds n) → ((hand : List (ℕ × Slot T E)) → with_empty n h hand ≡ hand)
+      pub round_gave_exclusive : (h : Hold T) (parts' : List (std.Option T)) → HeldIn mode.Exclusive (hold_at me.0.at.holds n) → ((hand : List (ℕ × Slot T E K)) → with_empty n h hand ≡ hand)
           → std.None ≡ part_out h → Holds o me n h (rest me.1) me' → parts' ≡ slice_set parts n std.None → IsRound o bare n me' parts'
       unfolding lower upper
       round_gave_exclusive h parts' p none out t e =
           let wide : n < length me.0.at.holds = omega (arith, b.stands.wide, below) in
           let holds : me'.0.at.holds ≡ slice_set me.0.at.holds n h = ap (λ (z : View T E). z.at.holds) t.view in
           let now : hold_at me'.0.at.holds n ≡ h = ap (λ (z : List (Hold T)). hold_at z n) holds ∙ hold_at-set_same me.0.at.holds n h wide in
-          let first : me.1 ≡ (n, Empty) ∷ (lower ++ upper) = hand_now ∙ ap (λ (z : List (ℕ × Slot T E)). z ++ upper) (hand_exclusive o bare n (hold_at me.0.at.holds n) lower p) in
+          let first : me.1 ≡ (n, Empty) ∷ (lower ++ upper) = hand_now ∙ ap (λ (z : List (ℕ × Slot T E K)). z ++ upper) (hand_exclusive o bare n (hold_at me.0.at.holds n) lower p) in
           subst (λ (z : List (std.Option T)). IsRound o bare n me' z) (sym e)
           (round_next (slice_set parts n std.None) (quiet_after me.0 me'.0 n h t.view b.quiet)
           (λ k ne. ap (λ (z : List (Hold T)). hold_at z k) holds ∙ hold_at-set_other me.0.at.holds n k h ne)
-          (t.hand_is ∙ ap (λ (z : List (ℕ × Slot T E)). rest z) first ∙ ap (λ (z : List (ℕ × Slot T E)). lower ++ z) (sym (append-nil upper) ∙ ap (λ (z : List (ℕ × Slot T E)). upper ++ z) (sym (none [])))
+          (t.hand_is ∙ ap (λ (z : List (ℕ × Slot T E K)). rest z) first ∙ ap (λ (z : List (ℕ × Slot T E K)). lower ++ z) (sym (append-nil upper) ∙ ap (λ (z : List (ℕ × Slot T E K)). upper ++ z) (sym (none [])))
           ∙ ap (λ (z : Hold T). lower ++ (upper ++ with_empty n z [])) (sym now))
           (length-set parts n std.None ∙ b.room)
           (subst (λ (z : List (Hold T)). AreOut bare z (slice_set parts n std.None)) (sym holds)
@@ -178,8 +179,8 @@ module _ {T E : Type 0} where
       pub round_first : HeldIn mode.Exclusive (hold_at me.0.at.holds n) → me.1 ≡ (n, Empty) ∷ rest me.1
       unfolding lower upper
       round_first p =
-          let first : me.1 ≡ (n, Empty) ∷ (lower ++ upper) = hand_now ∙ ap (λ (z : List (ℕ × Slot T E)). z ++ upper) (hand_exclusive o bare n (hold_at me.0.at.holds n) lower p) in
-          first ∙ sym (ap (λ (z : List (ℕ × Slot T E)). (n, Empty) ∷ rest z) first)
+          let first : me.1 ≡ (n, Empty) ∷ (lower ++ upper) = hand_now ∙ ap (λ (z : List (ℕ × Slot T E K)). z ++ upper) (hand_exclusive o bare n (hold_at me.0.at.holds n) lower p) in
+          first ∙ sym (ap (λ (z : List (ℕ × Slot T E K)). (n, Empty) ∷ rest z) first)
 
       pub round_part : (r : std.Option T) → HeldIn mode.Exclusive (hold_at me.0.at.holds n) → slice_get parts n ≡ std.Some r
           → (y : T) × (r ≡ std.Some y) × (hold_at me.0.at.holds n ≡ Exclusive (bare y))
@@ -202,7 +203,7 @@ module _ {T E : Type 0} where
       round_may m p = record { quiet = b.quiet; held = p }
 
     -- a round begins and ends with what is held
-    pub round_begins : (me : Me (Slot T E) (View T E)) (parts : List (std.Option T)) → HoldsBelow o bare 64 me parts → IsRound o bare 64 me parts
+    pub round_begins : (me : Me (Slot T E K) (View T E)) (parts : List (std.Option T)) → HoldsBelow o bare 64 me parts → IsRound o bare 64 me parts
     round_begins me parts b = record {
       quiet = b.quiet;
       hand_is = b.hand_is ∙ sym (append-nil (empties 64 me.0.at.holds));
@@ -211,7 +212,7 @@ module _ {T E : Type 0} where
       stands = b.stands;
     }
 
-    pub round_ends : (me : Me (Slot T E) (View T E)) (parts : List (std.Option T)) → IsRound o bare 0 me parts → HoldsBelow o bare 64 me parts
+    pub round_ends : (me : Me (Slot T E K) (View T E)) (parts : List (std.Option T)) → IsRound o bare 0 me parts → HoldsBelow o bare 64 me parts
     round_ends me parts b = record {
       quiet = b.quiet;
       above = λ k l. subst (λ (z : Hold T). HeldIn mode.None z) (sym (hold_at-past me.0.at.holds k (omega (arith, b.stands.wide)))) tt;

@@ -9,6 +9,7 @@ use Rattle.lock_core.proofs.Totals.{elem-map, map-set, set_again, at_set}
 use Rattle.lock_core.proofs.Columns.{index-set_other}
 use Rattle.lock_core.proofs.CoreMoves.{seat_at_there}
 use Rattle.lock_core.proofs.InWords.{in_words}
+use Rattle.commit_journal.specs.Keeper.{Told}
 use Rattle.atomic_table.specs.Table.{State, Me, keeps, stepped}
 use Rattle.path_locks.specs.declared.rule.Slot.{Slot}
 use Rattle.path_locks.specs.declared.rule.Slot.TheVariants.{Empty, Part, Book}
@@ -26,24 +27,24 @@ index_again [] i = refl
 index_again (w ∷ ws) zero = refl
 index_again (w ∷ ws) (suc i) = ap (λ (l : List ℕ). w ∷ l) (index_again ws i)
 
-module _ {T E : Type 0} (bare : T → T) where
+module _ {T E K : Type 0} (bare : T → T) where
   -- a part that is home lies in its slot
-  pub part_there : (h : Option (Option (Slot T E))) (x : T) → home_of bare h ≡ some (some x) → (y : T) × (h ≡ some (some (Part y))) × (bare y ≡ x)
+  pub part_there : (h : Option (Option (Slot T E K))) (x : T) → home_of bare h ≡ some (some x) → (y : T) × (h ≡ some (some (Part y))) × (bare y ≡ x)
   part_there none x e = absurd (some-ne-none (some x) (sym e))
   part_there (some none) x e = absurd (some-ne-none x (sym (some-injective _ _ e)))
   part_there (some (some Empty)) x e = absurd (some-ne-none (some x) (sym e))
   part_there (some (some (Part y))) x e = (y, refl, some-injective _ _ (some-injective _ _ e))
-  part_there (some (some (Book j))) x e = absurd (some-ne-none (some x) (sym e))
+  part_there (some (some (Book j k))) x e = absurd (some-ne-none (some x) (sym e))
 
   -- one slot and the place that it shows change together
-  pub placed_set : (hs : List (Option (Slot T E))) (ms : List (Option T)) (s : ℕ) (a : Option (Slot T E)) (b : Option T) → s < length hs → s < length ms
+  pub placed_set : (hs : List (Option (Slot T E K))) (ms : List (Option T)) (s : ℕ) (a : Option (Slot T E K)) (b : Option T) → s < length hs → s < length ms
       → home_of bare (some a) ≡ some b → IsPlaced bare hs ms → IsPlaced bare (slice_set hs s a) (slice_set ms s b)
   placed_set hs ms s a b ls lm e placed k h = dite (ℕ_discrete k s)
       (λ q. subst (λ (i : ℕ). home_of bare (get_elem? (slice_set hs s a) i) ≡ get_elem? (slice_set ms s b) i) (sym q)
-      (ap (λ (z : Option (Option (Slot T E))). home_of bare z) (elem-set_same hs s a ls) ∙ e ∙ sym (elem-set_same ms s b lm)))
-      (λ n. ap (λ (z : Option (Option (Slot T E))). home_of bare z) (elem-set_other hs s k a n) ∙ placed k h ∙ sym (elem-set_other ms s k b n))
+      (ap (λ (z : Option (Option (Slot T E K))). home_of bare z) (elem-set_same hs s a ls) ∙ e ∙ sym (elem-set_same ms s b lm)))
+      (λ n. ap (λ (z : Option (Option (Slot T E K))). home_of bare z) (elem-set_other hs s k a n) ∙ placed k h ∙ sym (elem-set_other ms s k b n))
 
-  module _ {R : Type 0} (key : Opening E) (t : State (Slot T E) (View T E)) (m : LockState T E R) (sh : Shows bare key t m) where
+  module _ {R : Type 0} (key : Opening E K) (t : State (Slot T E K) (View T E)) (m : LockState T E R) (sh : Shows bare key t m) where
     -- the seat of a view
     pub seat_of_view : (id : ℕ) (v : View T E) → get_elem? t.views id ≡ some v → seat_at m.seats id ≡ v.at
     seat_of_view id v here = seat_at_there m.seats id v.at
@@ -55,7 +56,7 @@ module _ {T E : Type 0} (bare : T → T) where
 
     -- a step on the word of a stripe shows the machine after an event that does the same
     pub shown_after : (i n : ℕ) → i ≢ 128 → (n' : ℕ) → n ≡ n' → (id : ℕ) (w : View T E) (x : Sitting T E) → w.at ≡ x
-        → (hs : List (Option (Slot T E))) (ms : List (Option T)) → length hs ≡ 65 → get_elem? hs 64 ≡ get_elem? t.homes 64 → IsPlaced bare hs ms
+        → (hs : List (Option (Slot T E K))) (ms : List (Option T)) → length hs ≡ 65 → get_elem? hs 64 ≡ get_elem? t.homes 64 → IsPlaced bare hs ms
         → Shows bare key (record { words = slice_set t.words i n; homes = hs; views = slice_set t.views id w })
         (record { words = slice_set m.words i n'; homes = ms; journal = m.journal; replies = m.replies; seats = slice_set m.seats id x })
     shown_after i n far n' en id w x ew hs ms long same placed =
@@ -66,12 +67,12 @@ module _ {T E : Type 0} (bare : T → T) where
               ∙ ap (λ (z : Sitting T E). slice_set m.seats id z) ew;
           slots = long;
           places = placed;
-          book = λ z. subst (λ (q : Option (Option (Slot T E))). IsBook key m.journal q) (sym same) (sh.book (sym kept ∙ z));
+          book = λ z. subst (λ (q : Option (Option (Slot T E K))). IsBook key m.journal q) (sym same) (sh.book (sym kept ∙ z));
           away = λ z. same ∙ sh.away (sym kept ∙ z);
         }
 
   -- the views after a step in which one changes no more than its seat
-  pub views_after : (key : Opening E) (h : List E) (views : List (View T E)) (id : ℕ) (v w : View T E) → get_elem? views id ≡ some v
+  pub views_after : (key : Opening E K) (h : List E) (views : List (View T E)) (id : ℕ) (v w : View T E) → get_elem? views id ≡ some v
       → w.made ≡ v.made → w.limits ≡ v.limits → w.before ≡ v.before → v.at.live ≡ true → AreViews key h views → AreViews key h (slice_set views id w)
   views_after key h views id v w here made limits before live ok = record {
     few = let l = length-set views id w in omega (arith, ok.few);
@@ -93,14 +94,14 @@ module _ {T E : Type 0} (bare : T → T) where
       })
       each_of j z (inr p) alive = ok.each j z p.1 alive
 
-  module _ {R : Type 0} (o : Object T E R) (key : Opening E) where
+  module _ {R : Type 0} (o : Object T E R) (key : Opening E K) where
     -- a step that changes nothing
-    pub load_keeps : (t : State (Slot T E) (View T E)) (i id : ℕ) (me : Me (Slot T E) (View T E)) → get_elem? t.views id ≡ some me.0 → Ruled o bare key t
-        → Ruled o bare key (stepped t i (slice_index t.words i) id me.1 me.0 keeps)
-    load_keeps t i id me here ruled =
+    pub load_keeps : (tells : K → Told E) (t : State (Slot T E K) (View T E)) (i id : ℕ) (me : Me (Slot T E K) (View T E)) → get_elem? t.views id ≡ some me.0 → Ruled o bare tells key t
+        → Ruled o bare tells key (stepped t i (slice_index t.words i) id me.1 me.0 keeps)
+    load_keeps tells t i id me here ruled =
         let a = index_again t.words i in
         let b = set_again t.views id me.0 here in
-        subst (λ (z : State (Slot T E) (View T E)). Ruled o bare key z) (λ k. record { words = sym a k; homes = t.homes; views = sym b k }) ruled
+        subst (λ (z : State (Slot T E K) (View T E)). Ruled o bare tells key z) (λ k. record { words = sym a k; homes = t.homes; views = sym b k }) ruled
 
     -- what a live seat stands in
     pub stands_at : (m : LockState T E R) → IsSound o key.journal.value.entries m → (j : ℕ) (x : Sitting T E) → seat_at m.seats j ≡ x → x.live ≡ true → Stands o x

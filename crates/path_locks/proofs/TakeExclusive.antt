@@ -9,6 +9,7 @@ use Rattle.lock_core.specs.Machine.{LockState, plain, exclusively, exclusive_wit
 use Rattle.lock_core.specs.Lists.{elem-set_same, elem-set_other}
 use Rattle.lock_core.proofs.Totals.{elem_within}
 use Rattle.lock_core.proofs.LockExclusive.{lock_exclusive_keeps, lock_exclusive_finds}
+use Rattle.commit_journal.specs.Keeper.{Told}
 use Rattle.atomic_table.specs.Table.{Me, Act, keeps, takes, step, stepped, Valid, Allows, carried_after}
 use Rattle.atomic_table.proofs.Lists.{exchanged}
 use Rattle.path_locks.specs.declared.rule.Slot.{Slot}
@@ -18,6 +19,7 @@ use Rattle.path_locks.specs.declared.rule.Opening.{Opening}
 use Rattle.path_locks.specs.Rule.{Ruled}
 use Rattle.path_locks.specs.Plays.{with_stripe, MayTake, took_exclusive}
 use Rattle.path_locks.proofs.Shown.{part_there, placed_set, seat_of_view, word_is, shown_after, views_after, load_keeps, stands_at}
+use Rattle.path_locks.proofs.Kept.{kept_after}
 use mathlib.Core.Option.{Option, none, some}
 use prog.Atomic.{either}
 use lib.ListN.{get_elem?}
@@ -33,12 +35,12 @@ module _ {T E R : Type 0} (o : Object T E R) where
   same_hold : (x x' : Sitting T E) (s : ℕ) (h : Option (Option T)) (y : T) → x' ≡ x → h ≡ some (some y) → with_hold x s (Exclusive y) ≡ with_hold x' s (exclusive_with h)
   same_hold x x' s h y e f = λ i. with_hold (sym e i) s (exclusive_with (sym f i))
 
-  module _ (lawful : IsLawful o) (bare : T → T) (key : Opening E) where
-    pub may_take_exclusive : (slots id : ℕ) (me : Me (Slot T E) (View T E)) (s : ℕ) → s < 64 → MayTake me.0.at s
-        → Allows (Ruled o bare key) slots id me s (λ n. either (eqb n 0) exclusively n) (took_exclusive o bare (step slots s 0 exclusively none) me)
+  module _ {K : Type 0} (lawful : IsLawful o) (bare : T → T) (tells : K → Told E) (key : Opening E K) where
+    pub may_take_exclusive : (slots id : ℕ) (me : Me (Slot T E K) (View T E)) (s : ℕ) → s < 64 → MayTake me.0.at s
+        → Allows (Ruled o bare tells key) slots id me s (λ n. either (eqb n 0) exclusively n) (took_exclusive o bare (step slots s 0 exclusively none) me)
     may_take_exclusive slots id me s h may t ruled long here small =
-        exchanged (slice_index t.words s) 0 exclusively (λ n. (w : View T E) × (a : Act (Slot T E)) × Valid t.homes me.1 a
-        × Ruled o bare key (stepped t s n id me.1 w a) × took_exclusive o bare (step slots s 0 exclusively none) me (slice_index t.words s) (w, carried_after me.1 a))
+        exchanged (slice_index t.words s) 0 exclusively (λ n. (w : View T E) × (a : Act (Slot T E K)) × Valid t.homes me.1 a
+        × Ruled o bare tells key (stepped t s n id me.1 w a) × took_exclusive o bare (step slots s 0 exclusively none) me (slice_index t.words s) (w, carried_after me.1 a))
         (λ zero.
         let m = ruled.0 in
         let sh = ruled.1 in
@@ -61,5 +63,5 @@ module _ {T E R : Type 0} (o : Object T E R) where
         let views = views_after bare key m.journal t.views id me.0 w here refl refl refl may.quiet.live ruled.2 in
         let there = elem-set_same t.views id w (elem_within t.views id me.0 here) in
         let stands = stands_at bare o key m' ok' id w.at (seat_of_view bare key _ m' shows id w there) may.quiet.live in
-        (w, takes s (Part y), slot.1, (m', shows, views, ok'), ((λ _. (y, record { view = refl; hand_is = refl; stands = stands })), (λ ne. absurd (ne zero)))))
-        (λ ne. (me.0, keeps, tt, load_keeps bare o key t s id me here ruled, ((λ z. absurd (ne z)), (λ _. refl))))
+        (w, takes s (Part y), slot.1, (m', shows, views, ok', kept_after tells t ruled.4 _ (slice_set t.homes s none) (elem-set_other t.homes s 64 none (λ e. omega arith)) id me.0 w here refl refl may.quiet.live refl), ((λ _. (y, record { view = refl; hand_is = refl; stands = stands })), (λ ne. absurd (ne zero)))))
+        (λ ne. (me.0, keeps, tt, load_keeps bare o key tells t s id me here ruled, ((λ z. absurd (ne z)), (λ _. refl))))

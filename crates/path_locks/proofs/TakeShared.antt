@@ -9,6 +9,7 @@ use Rattle.lock_core.specs.Machine.{LockState, plain, exclusively, seat_at, with
 use Rattle.lock_core.specs.Lists.{elem-set_same}
 use Rattle.lock_core.proofs.Totals.{elem_within}
 use Rattle.lock_core.proofs.LockShared.{lock_shared_keeps}
+use Rattle.commit_journal.specs.Keeper.{Told}
 use Rattle.atomic_table.specs.Table.{Me, Act, keeps, step, stepped, Valid, Allows, carried_after}
 use Rattle.atomic_table.proofs.Lists.{exchanged}
 use Rattle.path_locks.specs.declared.rule.Slot.{Slot}
@@ -17,6 +18,7 @@ use Rattle.path_locks.specs.declared.rule.Opening.{Opening}
 use Rattle.path_locks.specs.Rule.{Ruled}
 use Rattle.path_locks.specs.Plays.{with_stripe, MayTake, took_shared}
 use Rattle.path_locks.proofs.Shown.{seat_of_view, word_is, shown_after, views_after, load_keeps, stands_at}
+use Rattle.path_locks.proofs.Kept.{kept_after}
 use mathlib.Core.Option.{none}
 use prog.Atomic.{either}
 
@@ -27,12 +29,12 @@ module _ {T E R : Type 0} (o : Object T E R) where
       let t = subst (λ (z : Sitting T E). MayTake z s) (sym e) may in
       (t.quiet.live, (t.quiet.no_journal, (t.quiet.no_latch, (t.above, (low, tt)))))
 
-  module _ (bare : T → T) (key : Opening E) where
-    pub may_take_shared : (slots id : ℕ) (me : Me (Slot T E) (View T E)) (s n : ℕ) → s < 64 → MayTake me.0.at s → n < 4294967295
-        → Allows (Ruled o bare key) slots id me s (λ k. either (eqb k n) (n + 1) k) (took_shared o (step slots s n (n + 1) none) me)
+  module _ {K : Type 0} (bare : T → T) (tells : K → Told E) (key : Opening E K) where
+    pub may_take_shared : (slots id : ℕ) (me : Me (Slot T E K) (View T E)) (s n : ℕ) → s < 64 → MayTake me.0.at s → n < 4294967295
+        → Allows (Ruled o bare tells key) slots id me s (λ k. either (eqb k n) (n + 1) k) (took_shared o (step slots s n (n + 1) none) me)
     may_take_shared slots id me s n h may few t ruled long here small =
-        exchanged (slice_index t.words s) n (n + 1) (λ k. (w : View T E) × (a : Act (Slot T E)) × Valid t.homes me.1 a
-        × Ruled o bare key (stepped t s k id me.1 w a) × took_shared o (step slots s n (n + 1) none) me (slice_index t.words s) (w, carried_after me.1 a))
+        exchanged (slice_index t.words s) n (n + 1) (λ k. (w : View T E) × (a : Act (Slot T E K)) × Valid t.homes me.1 a
+        × Ruled o bare tells key (stepped t s k id me.1 w a) × took_shared o (step slots s n (n + 1) none) me (slice_index t.words s) (w, carried_after me.1 a))
         (λ same.
         let m = ruled.0 in
         let sh = ruled.1 in
@@ -50,5 +52,5 @@ module _ {T E R : Type 0} (o : Object T E R) where
         let views = views_after bare key m.journal t.views id me.0 w here refl refl refl may.quiet.live ruled.2 in
         let there = elem-set_same t.views id w (elem_within t.views id me.0 here) in
         let stands = stands_at bare o key m' ok' id w.at (seat_of_view bare key _ m' shows id w there) may.quiet.live in
-        (w, keeps, tt, (m', shows, views, ok'), ((λ _. record { view = refl; hand_is = refl; stands = stands }), (λ ne. absurd (ne same)))))
-        (λ ne. (me.0, keeps, tt, load_keeps bare o key t s id me here ruled, ((λ z. absurd (ne z)), (λ _. refl))))
+        (w, keeps, tt, (m', shows, views, ok', kept_after tells t ruled.4 _ t.homes refl id me.0 w here refl refl may.quiet.live refl), ((λ _. record { view = refl; hand_is = refl; stands = stands }), (λ ne. absurd (ne same)))))
+        (λ ne. (me.0, keeps, tt, load_keeps bare o key tells t s id me here ruled, ((λ z. absurd (ne z)), (λ _. refl))))

@@ -34,17 +34,17 @@ module _ {A : Type 0} where
   get_last [] a = refl
   get_last (x ∷ xs) a = get_last xs a
 
-module _ {T E : Type 0} where
-  part_or : T → Slot T E → T
+module _ {T E K : Type 0} where
+  part_or : T → Slot T E K → T
   part_or d Empty = d
   part_or d (Part y) = y
-  part_or d (Book j) = d
+  part_or d (Book j k) = d
 
-  pub same_part : (x y : T) → (let s : Slot T E = Part x in s) ≡ Part y → x ≡ y
+  pub same_part : (x y : T) → (let s : Slot T E K = Part x in s) ≡ Part y → x ≡ y
   unfolding part_or
-  same_part x y e = ap (λ (z : Slot T E). part_or x z) e
+  same_part x y e = ap (λ (z : Slot T E K). part_or x z) e
 
-  pub taken_next : (items : List (Slot T E)) (parts parts' : List T) (part : T) (n : ℕ) → parts' ≡ parts ++ part ∷ [] → length parts ≡ n → get_elem? items n ≡ some (Part part)
+  pub taken_next : (items : List (Slot T E K)) (parts parts' : List T) (part : T) (n : ℕ) → parts' ≡ parts ++ part ∷ [] → length parts ≡ n → get_elem? items n ≡ some (Part part)
       → ((k : ℕ) (y : T) → k < n → get_elem? items k ≡ some (Part y) → slice_get parts k ≡ std.Some y)
       → (k : ℕ) (y : T) → k < n + 1 → get_elem? items k ≡ some (Part y) → slice_get parts' k ≡ std.Some y
   taken_next items parts parts' part n e l here before k y h at = ap (λ (z : List T). slice_get z k) e ∙ dite (ℕ_discrete k n)

@@ -40,8 +40,8 @@ module _ {T : Type 0} where
   none_bared bare std.None e = refl
   none_bared bare (std.Some y) e = absurd (none-some (bare y) (sym e))
 
-module _ {T E R : Type 0} (o : Object T E R) (bare : T → T) where
-  pub below_none : (s : SeatView T E) (parts : List (std.Option T)) → HoldsNothing s → Stands o s.me.0.at → parts ≡ s.room → HoldsBelow o bare 0 s.me parts
+module _ {T E R K : Type 0} (o : Object T E R) (bare : T → T) where
+  pub below_none : (s : SeatView T E K) (parts : List (std.Option T)) → HoldsNothing s → Stands o s.me.0.at → parts ≡ s.room → HoldsBelow o bare 0 s.me parts
   below_none s parts n stands e =
       let all : parts ≡ replicate 64 std.None = e ∙ n.room in
       record {
@@ -57,7 +57,7 @@ module _ {T E R : Type 0} (o : Object T E R) (bare : T → T) where
         stands = stands;
       }
 
-  pub none_below : (s : SeatView T E) (parts : List (std.Option T)) → HoldsBelow o bare 0 s.me parts → s.room ≡ parts → HoldsNothing s
+  pub none_below : (s : SeatView T E K) (parts : List (std.Option T)) → HoldsBelow o bare 0 s.me parts → s.room ≡ parts → HoldsNothing s
   none_below s parts b e = record {
     idle = record { no_hold = λ k. b.above k (omega arith); no_latch = b.quiet.no_latch; no_journal = b.quiet.no_journal };
     no_slot = b.hand_is;
@@ -67,7 +67,7 @@ module _ {T E R : Type 0} (o : Object T E R) (bare : T → T) where
         t.1 ∙ ap (λ (q : std.Option T). std.Some q) none);
   }
 
-  pub below_held : (s : SeatView T E) (h : HeldView T) → IsHeldBy bare s h → has_journal s ≡ false → Stands o s.me.0.at → HoldsBelow o bare 64 s.me h.parts
+  pub below_held : (s : SeatView T E K) (h : HeldView T) → IsHeldBy bare s h → has_journal s ≡ false → Stands o s.me.0.at → HoldsBelow o bare 64 s.me h.parts
   below_held s h held none stands = record {
     quiet = record { live = stands.live; no_journal = none; no_latch = held.no_latch };
     above = λ k l. subst (λ (z : Hold T). HeldIn mode.None z) (sym (hold_at-past s.me.0.at.holds k (omega (arith, stands.wide)))) tt;
@@ -77,7 +77,7 @@ module _ {T E R : Type 0} (o : Object T E R) (bare : T → T) where
     stands = stands;
   }
 
-  pub held_below : (s : SeatView T E) (h : HeldView T) → HoldsBelow o bare 64 s.me h.parts → AreHeld h.modes 64 s.me.0.at.holds → IsHeldBy bare s h
+  pub held_below : (s : SeatView T E K) (h : HeldView T) → HoldsBelow o bare 64 s.me h.parts → AreHeld h.modes 64 s.me.0.at.holds → IsHeldBy bare s h
   held_below s h b modes = record {
     no_latch = b.quiet.no_latch;
     modes = modes;

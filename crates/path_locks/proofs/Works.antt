@@ -1,5 +1,5 @@
 -- Work in places, one after the other.
-use Rattle.std.proofs.Common.{◌≡◌, ◌⊎◌, inl, inr, ⊎_elim, ℕ, zero, suc, ◌+◌, ◌<◌, ◌≤◌, List, [], ◌∷◌, length, slice_get, slice_set, refl, ap, sym, ◌∙◌, subst, length-set, arith}
+use Rattle.std.proofs.Common.{◌≡◌, ◌⊎◌, inl, inr, ⊎_elim, ℕ, zero, suc, ◌+◌, ◌<◌, ◌≤◌, List, [], ◌∷◌, length, slice_get, slice_set, true, true≢false, false, refl, ap, sym, ◌∙◌, subst, length-set, arith}
 use Rattle.std.specs.Prelude as std
 use Rattle.path_locks.specs.Holding.{bared}
 use Rattle.lock_core.specs.declared.object.LockMode.{LockMode}
@@ -11,7 +11,7 @@ use Rattle.path_locks.proofs.Below.{some_inj, get-set_same, get-set_other}
 use mathlib.Core.Logic.{dite}
 use native.Mathlib.Decide.{ℕ_discrete}
 
-lt_or_ge : (k n : ℕ) → (k < n) ⊎ (n ≤ k)
+pub lt_or_ge : (k n : ℕ) → (k < n) ⊎ (n ≤ k)
 lt_or_ge k zero = inr (omega arith)
 lt_or_ge zero (suc n) = inl (omega arith)
 lt_or_ge (suc k) (suc n) = ⊎_elim (λ p. inl (omega arith)) (λ p. inr (omega arith)) (lt_or_ge k n)
@@ -21,6 +21,15 @@ module _ {A : Type 0} where
   set_twice [] i a b = refl
   set_twice (x ∷ xs) zero a b = refl
   set_twice (x ∷ xs) (suc i) a b = ap (λ (l : List A). x ∷ l) (set_twice xs i a b)
+
+pub set_there : {A : Type 0} (l : List A) (i : ℕ) (a : A) → slice_get l i ≡ std.Some a → slice_set l i a ≡ l
+set_there [] i a e = refl
+set_there (x ∷ xs) zero a e = ap (λ (z : _). z ∷ xs) (sym (some_inj x a e))
+set_there (x ∷ xs) (suc i) a e = ap (λ (l : List _). x ∷ l) (set_there xs i a e)
+
+pub is_none_is : {A : Type 0} (q : std.Option A) → std.is_some q ≡ false → q ≡ std.None
+is_none_is std.None e = refl
+is_none_is (std.Some a) e = absurd (true≢false e)
 
 module _ {T : Type 0} (bare : T → T) (f : std.Option T → std.Option T) where
   pub changed_none : (xs ys : List (std.Option T)) → AreChangedBelow bare f 0 xs xs
@@ -45,6 +54,16 @@ module _ {T : Type 0} (bare : T → T) (f : std.Option T → std.Option T) where
 
   pub changed_all : (xs ys : List (std.Option T)) (n : ℕ) → length xs ≤ n → AreChangedBelow bare f n xs ys → AreChanged bare f xs ys
   changed_all xs ys n l a = record { long = a.long; each = λ k q e. a.done k q (let w = slice_get_within xs k q e in omega arith) e }
+
+  -- a place without a part stays as it is
+  pub stays_none : (xs : List (std.Option T)) (n : ℕ) (q : std.Option T) → slice_get xs n ≡ std.Some q → std.is_some q ≡ false → f std.None ≡ std.None → IsChangedAt bare f n xs xs
+  stays_none xs n q at e none = record {
+    old = std.None;
+    new = std.None;
+    there = at ∙ ap (λ (z : std.Option T). std.Some z) (is_none_is q e);
+    is = sym (set_there xs n std.None (at ∙ ap (λ (z : std.Option T). std.Some z) (is_none_is q e)));
+    becomes = sym none;
+  }
 
   -- one place changes, or stays without a part
   pub changed_at : (xs ms ys : List (std.Option T)) (n : ℕ) (q r : std.Option T) → slice_get xs n ≡ std.Some q → ms ≡ slice_set xs n std.None → ys ≡ slice_set ms n r
@@ -95,7 +114,7 @@ module _ {A : Type 0} where
       ap (λ (z : List A). slice_get z n) f ∙ get-set_same ms n a (omega arith)
 
 -- what is held stays held, where the parts are the same
-pub same_held : {T E : Type 0} (bare : T → T) (s : SeatView T E) (h h' : HeldView T) → h'.modes ≡ h.modes → AreChanged bare (λ q. q) h.parts h'.parts → IsHeldBy bare s h → IsHeldBy bare s h'
+pub same_held : {T E K : Type 0} (bare : T → T) (s : SeatView T E K) (h h' : HeldView T) → h'.modes ≡ h.modes → AreChanged bare (λ q. q) h.parts h'.parts → IsHeldBy bare s h → IsHeldBy bare s h'
 same_held bare s h h' em same held = record {
   no_latch = held.no_latch;
   modes = subst (λ (z : List LockMode). AreHeld z 64 s.me.0.at.holds) (sym em) held.modes;

@@ -38,17 +38,18 @@ module _ {T : Type 0} where
   AreOut bare holds parts = (k : ℕ) → k < 64 → (q : std.Option T) × (slice_get parts k ≡ std.Some q) × (bared bare q ≡ part_out (hold_at holds k))
 
 module _ {T E : Type 0} where
-  -- a slot is in hand, empty, where its stripe is held exclusively
-  abbrev pub with_empty : ℕ → Hold T → List (ℕ × Slot T E) → List (ℕ × Slot T E)
-  with_empty k Free hand = hand
-  with_empty k Shared hand = hand
-  with_empty k (Looked x) hand = hand
-  with_empty k (Exclusive x) hand = (k, Empty) ∷ hand
+  module _ {K : Type 0} where
+    -- a slot is in hand, empty, where its stripe is held exclusively
+    abbrev pub with_empty : ℕ → Hold T → List (ℕ × Slot T E K) → List (ℕ × Slot T E K)
+    with_empty k Free hand = hand
+    with_empty k Shared hand = hand
+    with_empty k (Looked x) hand = hand
+    with_empty k (Exclusive x) hand = (k, Empty) ∷ hand
 
-  -- the slots in hand of stripes below n, the last one first
-  abbrev pub empties : ℕ → List (Hold T) → List (ℕ × Slot T E)
-  empties zero holds = []
-  empties (suc n) holds = with_empty n (hold_at holds n) (empties n holds)
+    -- the slots in hand of stripes below n, the last one first
+    abbrev pub empties : ℕ → List (Hold T) → List (ℕ × Slot T E K)
+    empties zero holds = []
+    empties (suc n) holds = with_empty n (hold_at holds n) (empties n holds)
 
   -- a view with other holds
   abbrev pub reheld : View T E → List (Hold T) → View T E
@@ -74,7 +75,7 @@ module _ {T E : Type 0} where
     pub others : (k : ℕ) → k ≢ s → hold_at w.at.holds k ≡ hold_at v.at.holds k
 
 -- a seat holds stripes below n alone: their parts are out and their slots in hand
-pub record HoldsBelow {T E R : Type 0} (o : Object T E R) (bare : T → T) (n : ℕ) (me : Me (Slot T E) (View T E)) (parts : List (std.Option T)) : Type 0 where
+pub record HoldsBelow {T E R K : Type 0} (o : Object T E R) (bare : T → T) (n : ℕ) (me : Me (Slot T E K) (View T E)) (parts : List (std.Option T)) : Type 0 where
   pub quiet : IsQuiet me.0.at
   pub above : (k : ℕ) → n ≤ k → HeldIn mode.None (hold_at me.0.at.holds k)
   pub hand_is : me.1 ≡ empties n me.0.at.holds

@@ -46,10 +46,11 @@ module _ {T : Type 0} where
     pub left : (k : ℕ) → k < n → hold_at holds' k ≡ hold_at holds k
 
 module _ {T E : Type 0} where
-  -- the slots in hand of so many stripes from n on, the last one first
-  abbrev pub span : ℕ → ℕ → List (Hold T) → List (ℕ × Slot T E)
-  span n zero holds = []
-  span n (suc c) holds = with_empty (n + c) (hold_at holds (n + c)) (span n c holds)
+  module _ {K : Type 0} where
+    -- the slots in hand of so many stripes from n on, the last one first
+    abbrev pub span : ℕ → ℕ → List (Hold T) → List (ℕ × Slot T E K)
+    span n zero holds = []
+    span n (suc c) holds = with_empty (n + c) (hold_at holds (n + c)) (span n c holds)
 
   -- of one stripe is left what this mode keeps, and the view is else the same
   pub record IsNarrowedAt (s : ℕ) (m : LockMode) (v w : View T E) : Type 0 where
@@ -58,7 +59,7 @@ module _ {T E : Type 0} where
     pub others : (k : ℕ) → k ≢ s → hold_at w.at.holds k ≡ hold_at v.at.holds k
 
 -- a seat has gone through the stripes from n on: their slots in hand come behind those of the stripes below
-pub record IsRound {T E R : Type 0} (o : Object T E R) (bare : T → T) (n : ℕ) (me : Me (Slot T E) (View T E)) (parts : List (std.Option T)) : Type 0 where
+pub record IsRound {T E R K : Type 0} (o : Object T E R) (bare : T → T) (n : ℕ) (me : Me (Slot T E K) (View T E)) (parts : List (std.Option T)) : Type 0 where
   pub quiet : IsQuiet me.0.at
   pub hand_is : me.1 ≡ empties n me.0.at.holds ++ span n (64 - n) me.0.at.holds
   pub room : length parts ≡ 64

@@ -19,6 +19,10 @@ module _ {T E : Type 0} where
   abbrev pub with_at : View T E → Sitting T E → View T E
   with_at v x = record { at = x; before = v.before; made = v.made; limits = v.limits; taken = v.taken; tape = v.tape }
 
+  -- the same view, with other counts
+  abbrev pub with_counts : View T E → ℕ → ℕ → View T E
+  with_counts v taken tape = record { at = v.at; before = v.before; made = v.made; limits = v.limits; taken = taken; tape = tape }
+
   -- the same view, with the stripe held otherwise
   abbrev pub with_stripe : View T E → ℕ → Hold T → View T E
   with_stripe v s h = with_at v (with_hold v.at s h)
@@ -68,25 +72,26 @@ module _ {T E R : Type 0} (o : Object T E R) where
   abbrev pub new_view : View T E → View T E
   new_view v = record { at = newcomer o v.made v.at.seen; before = []; made = 0; limits = v.limits; taken = v.taken; tape = v.tape }
 
-  -- the seat holds the stripe in this way from now on, and its slots in hand are these
-  pub record Holds (m : Me (Slot T E) (View T E)) (s : ℕ) (h : Hold T) (hand : List (ℕ × Slot T E)) (m' : Me (Slot T E) (View T E)) : Type 0 where
-    pub view : m'.0 ≡ with_stripe m.0 s h
-    pub hand_is : m'.1 ≡ hand
-    pub stands : Stands o m'.0.at
+  module _ {K : Type 0} where
+    -- the seat holds the stripe in this way from now on, and its slots in hand are these
+    pub record Holds (m : Me (Slot T E K) (View T E)) (s : ℕ) (h : Hold T) (hand : List (ℕ × Slot T E K)) (m' : Me (Slot T E K) (View T E)) : Type 0 where
+      pub view : m'.0 ≡ with_stripe m.0 s h
+      pub hand_is : m'.1 ≡ hand
+      pub stands : Stands o m'.0.at
 
-  -- the word was what was wanted and the stripe is taken shared, or nothing changed
-  abbrev pub took_shared : Step (Slot T E) → Me (Slot T E) (View T E) → ℕ → Me (Slot T E) (View T E) → Type 0
-  took_shared st m found m' = (found ≡ st.first → Holds m st.word Shared m.1 m') × (found ≢ st.first → m' ≡ m)
+    -- the word was what was wanted and the stripe is taken shared, or nothing changed
+    abbrev pub took_shared : Step (Slot T E K) → Me (Slot T E K) (View T E) → ℕ → Me (Slot T E K) (View T E) → Type 0
+    took_shared st m found m' = (found ≡ st.first → Holds m st.word Shared m.1 m') × (found ≢ st.first → m' ≡ m)
 
-  -- the same for a stripe taken exclusively: its part is in hand, and is the note without what a reserve keeps ready
-  abbrev pub took_exclusive : (T → T) → Step (Slot T E) → Me (Slot T E) (View T E) → ℕ → Me (Slot T E) (View T E) → Type 0
-  took_exclusive bare st m found m' =
-      (found ≡ 0 → (y : T) × Holds m st.word (Exclusive (bare y)) ((st.word, Part y) ∷ m.1) m') × (found ≢ 0 → m' ≡ m)
+    -- the same for a stripe taken exclusively: its part is in hand, and is the note without what a reserve keeps ready
+    abbrev pub took_exclusive : (T → T) → Step (Slot T E K) → Me (Slot T E K) (View T E) → ℕ → Me (Slot T E K) (View T E) → Type 0
+    took_exclusive bare st m found m' =
+        (found ≡ 0 → (y : T) × Holds m st.word (Exclusive (bare y)) ((st.word, Part y) ∷ m.1) m') × (found ≢ 0 → m' ≡ m)
 
-  -- a stripe that was held shared is given back
-  abbrev pub gave_shared : Step (Slot T E) → Me (Slot T E) (View T E) → ℕ → Me (Slot T E) (View T E) → Type 0
-  gave_shared st m found m' = Holds m st.word Free m.1 m'
+    -- a stripe that was held shared is given back
+    abbrev pub gave_shared : Step (Slot T E K) → Me (Slot T E K) (View T E) → ℕ → Me (Slot T E K) (View T E) → Type 0
+    gave_shared st m found m' = Holds m st.word Free m.1 m'
 
-  -- a stripe that was held exclusively is given back, with the part that was taken last
-  abbrev pub gave_exclusive : Step (Slot T E) → Me (Slot T E) (View T E) → ℕ → Me (Slot T E) (View T E) → Type 0
-  gave_exclusive st m found m' = Holds m st.word Free (rest m.1) m'
+    -- a stripe that was held exclusively is given back, with the part that was taken last
+    abbrev pub gave_exclusive : Step (Slot T E K) → Me (Slot T E K) (View T E) → ℕ → Me (Slot T E K) (View T E) → Type 0
+    gave_exclusive st m found m' = Holds m st.word Free (rest m.1) m'

@@ -16,12 +16,12 @@ use crate::rule::{LockSeat, LockSlot, LockWords, Slot};
 use crate::start::add;
 use crate::steps::join_seats;
 use atomic_table::Closed;
-use commit_journal::Journal;
+use commit_journal::{Journal, Keeper};
 use lock_core::Parted;
 use std::alloc::Global;
 
 /// Joins one seat into another. Both hold nothing.
-fn join_in<P: Parted>(words: &LockWords<P>, seat: &mut LockSeat<P>, other: Seat<P>)
+fn join_in<P: Parted, K: Keeper<P::Entry>>(words: &LockWords<P, K>, seat: &mut LockSeat<P, K>, other: Seat<P, K>)
     requires own { (seat.old.table_id ≡ words.now.table_id) × (other.table ≡ words.now.table_id) × IsSized words.now.table_id }
     requires rest { IsResting seat.old.me.0.at }
     requires nothing { HoldsNothing other }
@@ -38,13 +38,13 @@ fn join_in<P: Parted>(words: &LockWords<P>, seat: &mut LockSeat<P>, other: Seat<
 }
 
 /// The last seat, once all others were joined into it.
-pub(crate) fn join_all<P: Parted>(words: &LockWords<P>, mut seats: Vec<Seat<P>>) -> LockSeat<P>
+pub(crate) fn join_all<P: Parted, K: Keeper<P::Entry>>(words: &LockWords<P, K>, mut seats: Vec<Seat<P, K>>) -> LockSeat<P, K>
     requires own { IsSized words.now.table_id }
-    requires every { AreEverySeat (table_of words.now.table_id words.now.key) seats.items }
+    requires every { AreEverySeat (table_of K.tells words.now.table_id words.now.key) seats.items }
     requires some { 1 ≤ words.now.key.seats }
     ensures own { result.table_id ≡ words.now.table_id }
     ensures rest { IsResting result.me.0.at }
-    ensures knew { (k : ℕ) (s : SeatView P.Part P.Entry) → slice_get seats.items k ≡ Some s → Knew result.me.0 (known s.me.0.at) }
+    ensures knew { (k : ℕ) (s : SeatView P.Part P.Entry K) → slice_get seats.items k ≡ Some s → Knew result.me.0 (known s.me.0.at) }
 {
     let Some(last) = seats.pop() else {
         unreachable!()
@@ -56,16 +56,16 @@ pub(crate) fn join_all<P: Parted>(words: &LockWords<P>, mut seats: Vec<Seat<P>>)
     seat
 }
 
-/// The parts and the journal that lie in the slots, the parts in a list that has room for them.
-pub(crate) fn take_out<P: Parted>(
-    mut closed: Closed<LockSlot<P>, Global>,
+/// The parts, the journal and its keeper that lie in the slots, the parts in a list that has room for them.
+pub(crate) fn take_out<P: Parted, K: Keeper<P::Entry>>(
+    mut closed: Closed<LockSlot<P, K>, Global>,
     mut parts: Vec<P::Part>,
-) -> (Vec<P::Part>, Journal<P::Entry>)
+) -> (Vec<P::Part>, Journal<P::Entry>, K)
     requires full { IsFull closed.slots × (slots_len closed.slots ≡ 65) }
     requires parts { (k : ℕ) → k < 64 → (y : P.Part) × (get_elem? (slots_items closed.slots) k ≡ some (Part y)) }
-    requires book { (b : JournalView P.Entry) × (get_elem? (slots_items closed.slots) 64 ≡ some (Book b)) }
+    requires book { (b : JournalView P.Entry) × (k : K) × (get_elem? (slots_items closed.slots) 64 ≡ some (Book b k)) }
     requires room { (parts.items ≡ []) × (64 ≤ vec_capacity parts) }
-    ensures { AreTakenOut (slots_items closed.slots) result.0.items result.1 }
+    ensures { AreTakenOut (slots_items closed.slots) result.0.items result.1 result.2 }
 {
     for stripe in 0..64usize {
         let Slot::Part(part) = closed.take(stripe) else {
@@ -73,9 +73,9 @@ pub(crate) fn take_out<P: Parted>(
         };
         add(&mut parts, part);
     }
-    let Slot::Book(journal) = closed.take(64) else {
+    let Slot::Book(journal, keeper) = closed.take(64) else {
         unreachable!()
     };
     closed.free();
-    (parts, journal)
+    (parts, journal, keeper)
 }

@@ -74,7 +74,7 @@ impl Plan {
 }
 
 /// What a stripe in this mode adds to how wide a plan is.
-fn width(mode: LockMode) -> u32
+pub(crate) fn width(mode: LockMode) -> u32
     ensures value { result ≡ width mode }
     ensures few { result ≤ 2 }
 {

@@ -3,10 +3,11 @@ ghost use Rattle.std.specs.Prelude.{◌≡◌, ◌+◌, ◌<◌, ◌≤◌, [], 
 ghost use Rattle.lock_core.specs.Object.{replay};
 ghost use Rattle.lock_core.specs.Sound.{AllFit};
 ghost use Rattle.path_locks.specs.Rule.{shelf, first_view};
+ghost use Rattle.commit_journal.specs.Keeper.{AreKept};
 ghost use Rattle.path_locks.specs.Holding.{IsSized};
 
 use crate::rule::{LockMemory, LockSeat, LockSlot, Opening, Slot};
-use commit_journal::Journal;
+use commit_journal::{Journal, Keeper};
 use lock_core::{Bodied, Parted};
 use std::alloc::{AllocError, Global};
 
@@ -48,15 +49,16 @@ pub(crate) fn empty_rooms<T: Drop>(
 }
 
 /// The slots at the start.
-pub(crate) fn fill_slots<T: Drop, E: Bodied + Drop>(
+pub(crate) fn fill_slots<T: Drop, E: Bodied + Drop, K: Drop>(
     alloc: Global,
     mut parts: Vec<T>,
     journal: Journal<E>,
-) -> Result<Vec<Slot<T, E>>, AllocError>
-    ensures { IfOk result (λ slots. slots.items ≡ shelf parts.items journal) }
+    keeper: K,
+) -> Result<Vec<Slot<T, E, K>>, AllocError>
+    ensures { IfOk result (λ slots. slots.items ≡ shelf parts.items journal keeper) }
 {
     let mut slots = Vec::new(alloc);
-    slots.push(Slot::Book(journal))?;
+    slots.push(Slot::Book(journal, keeper))?;
     while let Some(part) = parts.pop() {
         slots.push(Slot::Part(part))?;
     }
@@ -65,19 +67,20 @@ pub(crate) fn fill_slots<T: Drop, E: Bodied + Drop>(
 }
 
 /// The memory of a table with these slots, and its first seat.
-pub(crate) fn make_memory<P: Parted>(
+pub(crate) fn make_memory<P: Parted, K: Keeper<P::Entry>>(
     alloc: Global,
-    slots: Vec<LockSlot<P>>,
-    about: &Opening<P::Entry>,
-) -> Result<(LockMemory<P>, LockSeat<P>), AllocError>
-    requires slots { (parts : List P.Part) × (slots.items ≡ shelf parts about.now.journal.value) × (map P.bare parts ≡ replay P.object about.now.journal.value.entries) }
+    slots: Vec<LockSlot<P, K>>,
+    about: &Opening<P::Entry, K>,
+) -> Result<(LockMemory<P, K>, LockSeat<P, K>), AllocError>
+    requires slots { (parts : List P.Part) × (slots.items ≡ shelf parts about.now.journal.value about.now.keeper.value) × (map P.bare parts ≡ replay P.object about.now.journal.value.entries) }
+    requires kept { AreKept (K.tells about.now.keeper.value).kept about.now.journal.value.entries }
     requires fit { AllFit P.object about.now.journal.value.entries }
     requires some { 1 ≤ about.now.seats }
     ensures own { IfOk result (λ r. IsSized r.0.shared.table_id × (r.1.table_id ≡ r.0.shared.table_id)) }
-    ensures first { IfOk result (λ r. r.1.me ≡ (first_view P.object about.now, [])) }
+    ensures first { IfOk result (λ r. r.1.me ≡ (first_view P.object K.tells about.now, [])) }
     ensures key { IfOk result (λ r. r.0.shared.key ≡ about.now) }
 {
-    match LockMemory::<P>::new(alloc, &[0; 129], slots, about) {
+    match LockMemory::<P, K>::new(alloc, &[0; 129], slots, about) {
         Ok(made) => Ok(made),
         Err(_) => Err(AllocError),
     }

@@ -1,7 +1,7 @@
 -- What holds of a pass between two calls.
-use Rattle.std.proofs.Common.{◌≡◌, ℕ, zero, suc, ◌+◌, ◌<◌, ◌≤◌, ◌≢◌, false, List, [], ◌∷◌, ◌++◌, length, length-append, sum_by, slice_get, replicate, Some, refl, ap, sym, ◌∙◌, subst, arith}
+use Rattle.std.proofs.Common.{◌≡◌, ℕ, zero, suc, ◌+◌, ◌<◌, ◌≤◌, ◌≢◌, false, List, [], ◌∷◌, ◌++◌, length, length-append, nat_eq, sum_by, slice_get, replicate, Some, refl, ap, sym, ◌∙◌, subst, arith}
 use Rattle.std.specs.Prelude as std
-use Rattle.std.proofs.lemmas.List.Sums.{sum_by-append}
+use Rattle.std.proofs.lemmas.List.Sums.{sum_by-append, length-filter, count_by-le-length}
 use Rattle.std.proofs.lemmas.Option.{none-some}
 use Rattle.lock_core.specs.declared.object.LockMode.{LockMode}
 use Rattle.lock_core.specs.declared.object.LockMode.TheVariants as mode
@@ -13,10 +13,11 @@ use Rattle.commit_journal.specs.Limits.{LimitNumbers, AreWithin}
 use Rattle.path_locks.specs.Alike.{limits_of}
 use Rattle.path_locks.specs.Holding.{bared, part_out}
 use Rattle.path_locks.specs.Plans.{no_plan, AreHeld}
-use Rattle.path_locks.specs.Views.{SeatView, HeldView, TableView, seen_of, mine_of, has_journal, HoldsNothing, IsHeldBy, IsSameSeat, IsNewSeat}
+use Rattle.path_locks.specs.Views.{SeatView, HeldView, TableView, seen_of, mine_of, has_journal, HoldsNothing, IsHeldBy, IsSameSeat, IsSeatAgain, IsNewSeat}
 use Rattle.path_locks.proofs.Below.{some_inj}
 use Rattle.striped_store.specs.Views.{IsHeld}
 use Rattle.striped_store.specs.Passes.{KeepsCount}
+use Rattle.striped_store.specs.UsedIds.{IsUsed}
 use Rattle.striped_store.proofs.Footprints.{same_mode}
 use mathlib.Core.Logic.{dite}
 use mathlib.Core.Option.{some, some-ne-none}
@@ -44,14 +45,14 @@ module _ {T : Type 0} where
   looked_mode bare mode.Shared (Exclusive z) (Exclusive y) q x a some_mode o o' n = absurd a
   looked_mode bare mode.Exclusive h (Exclusive y) q x a some_mode o o' n = tt
 
-module _ {T E : Type 0} where
+module _ {T E K : Type 0} where
   -- nothing is held, which is what the plan of no stripe says
-  pub nothing_held : (s : SeatView T E) → HoldsNothing s → AreHeld no_plan 64 s.me.0.at.holds
+  pub nothing_held : (s : SeatView T E K) → HoldsNothing s → AreHeld no_plan 64 s.me.0.at.holds
   nothing_held s nothing k m h at =
       subst (λ (z : LockMode). HeldIn z (hold_at s.me.0.at.holds k)) (in_replicate 64 k mode.None m at) (nothing.idle.no_hold k)
 
   -- what is held is the same plan after a look
-  pub looked_held : (bare : T → T) (s t : SeatView T E) (held : HeldView T) (plan : List LockMode) (stripe : ℕ) (x : T) → stripe < 64 → IsHeld held stripe
+  pub looked_held : (bare : T → T) (s t : SeatView T E K) (held : HeldView T) (plan : List LockMode) (stripe : ℕ) (x : T) → stripe < 64 → IsHeld held stripe
       → IsHeldBy bare s held → IsHeldBy bare t held → note_of (hold_at t.me.0.at.holds stripe) ≡ some x
       → ((k : ℕ) → k ≢ stripe → hold_at t.me.0.at.holds k ≡ hold_at s.me.0.at.holds k) → AreHeld plan 64 s.me.0.at.holds → AreHeld plan 64 t.me.0.at.holds
   looked_held bare s t held plan stripe x within some_mode was is found others before k m l at = dite (ℕ_discrete k stripe)
@@ -67,29 +68,32 @@ module _ {T E : Type 0} where
           looked_mode bare m (hold_at s.me.0.at.holds stripe) (hold_at t.me.0.at.holds stripe) p.0 x a (λ e. some_mode.2 (sym md ∙ e)) p.2
           (ap (λ (z : std.Option T). bared bare z) (sym same) ∙ q.2) found
 
-module _ {T E : Type 0} (uses : E → ℕ) where
-  -- a new pass has used up nothing
-  pub counts_new : {R : Type 0} (o : Object T E R) (table : TableView E) (n : ℕ) (s : SeatView T E) → table.opening ≡ [] → AreWithin table.limits → n < 64
-      → IsNewSeat o table n s → KeepsCount uses s no_plan n 0
-  counts_new o table n s opening within small new =
-      let seen : seen_of s ≡ [] = new.seen ∙ opening in
-      let mine : mine_of s ≡ [] = new.mine ∙ ap (λ (z : List E). by_pass o n z) opening in
-      let none : length (seen_of s) ≡ 0 = ap (λ (z : List E). length z) seen in
-      let own : length (mine_of s) ≡ 0 = ap (λ (z : List E). length z) mine in
+module _ {T E K : Type 0} (uses : E → ℕ) where
+  -- a new pass has used up what its entries of the journal at the start did
+  pub counts_open : {R : Type 0} (o : Object T E R) (table : TableView E) (n used : ℕ) (s : SeatView T E K) → length table.opening ≤ table.limits.journal_max → AreWithin table.limits
+      → n < 64 → IsUsed o uses table.opening n used → IsNewSeat o table n s → KeepsCount uses s no_plan n used
+  counts_open o table n used s short within small count new =
+      let seen : length (seen_of s) ≡ length table.opening = ap (λ (z : List E). length z) new.seen in
+      let mine : length (mine_of s) ≡ length (by_pass o n table.opening) = ap (λ (z : List E). length z) new.mine in
+      let most : (limits_of s).journal_max ≡ table.limits.journal_max = ap (λ (z : LimitNumbers). z.journal_max) new.limits in
+      let light = count.light in
       record {
         number = new.number;
         small = small;
         no_journal = new.nothing.idle.no_journal;
         held = nothing_held s new.nothing;
         within = subst (λ (z : LimitNumbers). AreWithin z) (sym new.limits) within;
-        few = omega (arith, none);
-        own = omega (arith, own);
-        used = sym (ap (λ (z : List E). sum_by uses z) mine);
-        light = omega arith;
+        few = omega (arith, seen, most, short);
+        own = omega (arith, seen, mine, length-filter (λ (e : E). nat_eq (o.by e) n) table.opening, count_by-le-length (λ (e : E). nat_eq (o.by e) n) table.opening);
+        used = count.is_sum ∙ sym (ap (λ (z : List E). sum_by uses z) new.mine);
+        light = omega (arith, light, mine);
       }
 
+  seat_again : (s t : SeatView T E K) → IsSameSeat s t → IsSeatAgain s t
+  seat_again s t q = record { table = q.table; place = q.place; number = q.number; olds = q.olds; before = q.before; made = q.made; limits = q.limits }
+
   -- a pass that has made no further entry has used up no more
-  pub counts_again : (s t : SeatView T E) (plan plan' : List LockMode) (number used : ℕ) → KeepsCount uses s plan number used → IsSameSeat s t
+  pub counts_again : (s t : SeatView T E K) (plan plan' : List LockMode) (number used : ℕ) → KeepsCount uses s plan number used → IsSeatAgain s t
       → mine_of t ≡ mine_of s → length (seen_of t) ≤ (limits_of t).journal_max → length (mine_of t) ≤ length (seen_of t) → has_journal t ≡ false
       → AreHeld plan' 64 t.me.0.at.holds → KeepsCount uses t plan' number used
   counts_again s t plan plan' number used keeps same mine few own no_journal held =
@@ -106,7 +110,7 @@ module _ {T E : Type 0} (uses : E → ℕ) where
         light = (let l = keeps.light in omega (arith, l, long));
       }
 
-  pub counts_same : (s t : SeatView T E) (plan plan' : List LockMode) (number used : ℕ) → KeepsCount uses s plan number used → IsSameSeat s t
+  pub counts_same : (s t : SeatView T E K) (plan plan' : List LockMode) (number used : ℕ) → KeepsCount uses s plan number used → IsSameSeat s t
       → seen_of t ≡ seen_of s → mine_of t ≡ mine_of s → has_journal t ≡ false → AreHeld plan' 64 t.me.0.at.holds → KeepsCount uses t plan' number used
   counts_same s t plan plan' number used keeps same seen mine no_journal held =
       let long : length (seen_of t) ≡ length (seen_of s) = ap (λ (z : List E). length z) seen in
@@ -114,10 +118,10 @@ module _ {T E : Type 0} (uses : E → ℕ) where
       let most : (limits_of t).journal_max ≡ (limits_of s).journal_max = ap (λ (z : LimitNumbers). z.journal_max) same.limits in
       let few = keeps.few in
       let less = keeps.own in
-      counts_again s t plan plan' number used keeps same mine (omega (arith, few, long, most)) (omega (arith, less, long, own)) no_journal held
+      counts_again s t plan plan' number used keeps (seat_again s t same) mine (omega (arith, few, long, most)) (omega (arith, less, long, own)) no_journal held
 
   -- a pass that has made one entry more has used up its ids too
-  pub counts_more : (s t : SeatView T E) (plan : List LockMode) (number used : ℕ) (e : E) → KeepsCount uses s plan number used → IsSameSeat s t
+  pub counts_more : (s t : SeatView T E K) (plan : List LockMode) (number used : ℕ) (e : E) → KeepsCount uses s plan number used → IsSeatAgain s t
       → mine_of t ≡ mine_of s ++ e ∷ [] → length (seen_of t) ≤ (limits_of t).journal_max → length (mine_of t) ≤ length (seen_of t) → HoldsNothing t
       → uses e ≤ 255 → KeepsCount uses t no_plan number (used + uses e)
   counts_more s t plan number used e keeps same mine few own nothing small =

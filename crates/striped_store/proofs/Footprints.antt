@@ -72,7 +72,7 @@ only_read false false e = cc
 shared_mode : (w r : Bool) → w ≡ false → r ≡ true → mode_of w r ≡ mode.Shared
 shared_mode w r e f = ap (λ (z : Bool). mode_of z r) e ∙ ap (λ (z : Bool). mode_of false z) f
 
-module _ {T E R : Type 0} (o : Object T E R) (lawful : IsLawful o) (s : SeatView T E) (e : E) (h : List E) (can : CanCommit o s e)
+module _ {T E R K : Type 0} (o : Object T E R) (lawful : IsLawful o) (s : SeatView T E K) (e : E) (h : List E) (can : CanCommit o s e)
     (parts : ArePartsOf o h s) where
   wide_notes : length (notes o s.me.0.at) ≡ 64
   wide_notes = length-notes_or o.opening s.me.0.at.holds ∙ lawful.opens

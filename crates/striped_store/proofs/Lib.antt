@@ -3,3 +3,4 @@ pub mod Counts
 pub mod Footprints
 pub mod Grown
 pub mod Passing
+pub mod Using

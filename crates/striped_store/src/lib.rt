@@ -15,6 +15,7 @@ mod pass;
 mod receipt;
 mod seats;
 mod store;
+mod used;
 
 pub use pass::Pass;
 pub use receipt::{CommitRefusal, Receipt};

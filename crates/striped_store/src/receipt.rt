@@ -27,6 +27,9 @@ pub enum CommitRefusal {
     /// A limit of the journal stands against the entry.
     #[error(transparent)]
     Full(Full),
+    /// The journal's keeper failed to keep the entry.
+    #[error("the keeper failed")]
+    Tape,
     /// Memory is wanting.
     #[error("out of memory")]
     NoMemory,

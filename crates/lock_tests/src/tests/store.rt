@@ -1,10 +1,10 @@
 ghost use Rattle.std.specs.Prelude.{◌≡◌, ◌+◌, ◌<◌, [], length, OnOk, IfOk};
 ghost use Rattle.std.specs.Thread.{IsSync};
-ghost use Rattle.path_locks.specs.Views.{HoldsNothing, IsSameSeat};
+ghost use Rattle.path_locks.specs.Views.{HoldsNothing, IsSeatAgain};
 ghost use Rattle.striped_store.specs.Views.{number_of_pass, IsNewPass, AreNewPasses, IsOf};
 
 use crate::callers::{Refused, footprint, narrowed, tallied};
-use commit_journal::{Full, Journal, Limits};
+use commit_journal::{Full, Journal, Limits, NoKeep};
 use lock_core::{Parted, Tally, TallyEntry};
 use std::alloc::{AllocError, Global};
 use std::sync::Wait;
@@ -13,18 +13,18 @@ use std::thread;
 use std::thread::Threads;
 use striped_store::{Closing, CommitRefusal, Pass, Receipt, Store};
 
-type Passes = Vec<Pass<Tally>>;
+pub(super) type Passes = Vec<Pass<Tally, NoKeep>>;
 
-fn opened(alloc: Global, passes: u32, entries: u64) -> Result<(Store<Tally>, Passes), Fail>
-    ensures many { IfOk result (λ r. length r.1.items ≡ r.0.limits.passes) }
+pub(super) fn opened(alloc: Global, passes: u32, entries: u64) -> Result<(Store<Tally, NoKeep>, Passes), Fail>
+    ensures many { IfOk result (λ r. length r.1.items ≡ r.0.seats) }
     ensures new { IfOk result (λ r. AreNewPasses r.0 r.1.items) }
 {
     let limits = Limits::new(passes, entries, 100, 1).ok_or("no limits")?;
-    Ok(Store::<Tally>::start(alloc, &limits)?)
+    Ok(Store::<Tally, NoKeep>::start(alloc, &limits, NoKeep)?)
 }
 
 /// The last of the new passes.
-fn popped(store: &Store<Tally>, passes: &mut Passes) -> Result<Pass<Tally>, Fail>
+pub(super) fn popped(store: &Store<Tally, NoKeep>, passes: &mut Passes) -> Result<Pass<Tally, NoKeep>, Fail>
     requires { AreNewPasses store.now passes.old.items }
     ensures new { AreNewPasses store.now passes.new.items }
     ensures fewer { OnOk result (length passes.new.items + 1 ≡ length passes.old.items) }
@@ -39,15 +39,15 @@ fn popped(store: &Store<Tally>, passes: &mut Passes) -> Result<Pass<Tally>, Fail
 /// Commits the same entry fifty times.
 fn churned<R: Wait>(
     rt: &R,
-    store: &Store<Tally>,
-    mut pass: Pass<Tally>,
+    store: &Store<Tally, NoKeep>,
+    mut pass: Pass<Tally, NoKeep>,
     reads: u8,
     writes: u8,
-) -> Pass<Tally>
+) -> Pass<Tally, NoKeep>
     requires own { IsOf store.now pass }
     requires nothing { HoldsNothing pass.seat }
     requires stripes { (reads < 64) × (writes < 64) }
-    ensures same { IsSameSeat pass.seat result.seat }
+    ensures same { IsSeatAgain pass.seat result.seat }
     ensures nothing { HoldsNothing result.seat }
 {
     for _round in 0..50u16 {
@@ -59,38 +59,38 @@ fn churned<R: Wait>(
 /// Two threads commit, the second one between stripes so far above those of the first.
 fn both_churned<R: Threads + Wait + Sync>(
     rt: &R,
-    store: &Store<Tally>,
-    first: Pass<Tally>,
-    second: Pass<Tally>,
+    store: &Store<Tally, NoKeep>,
+    first: Pass<Tally, NoKeep>,
+    second: Pass<Tally, NoKeep>,
     apart: u8,
-) -> (Pass<Tally>, Pass<Tally>)
+) -> (Pass<Tally, NoKeep>, Pass<Tally, NoKeep>)
     requires own { IsOf store.now first × IsOf store.now second }
     requires nothing { HoldsNothing first.seat × HoldsNothing second.seat }
     requires apart { apart < 60 }
-    ensures same { IsSameSeat first.seat result.0.seat × IsSameSeat second.seat result.1.seat }
+    ensures same { IsSeatAgain first.seat result.0.seat × IsSeatAgain second.seat result.1.seat }
     ensures nothing { HoldsNothing result.0.seat × HoldsNothing result.1.seat }
 {
-    let low = move || -> Pass<Tally>
+    let low = move || -> Pass<Tally, NoKeep>
         requires { IsSync R.row × IsOf store.now first × HoldsNothing first.seat }
-        ensures { IsSameSeat first.seat result.seat × HoldsNothing result.seat }
+        ensures { IsSeatAgain first.seat result.seat × HoldsNothing result.seat }
     { churned(rt, store, first, 1, 2) };
-    let high = move || -> Pass<Tally>
+    let high = move || -> Pass<Tally, NoKeep>
         requires { IsSync R.row × IsOf store.now second × HoldsNothing second.seat × (apart < 60) }
-        ensures { IsSameSeat second.seat result.seat × HoldsNothing result.seat }
+        ensures { IsSeatAgain second.seat result.seat × HoldsNothing result.seat }
     { churned(rt, store, second, 2 + apart, 1 + apart) };
     thread::join(rt, low, high)
 }
 
 /// Closes a store of two passes.
-fn closed(
-    store: Store<Tally>,
+pub(super) fn closed(
+    store: Store<Tally, NoKeep>,
     mut passes: Passes,
-    first: Pass<Tally>,
-    second: Pass<Tally>,
-) -> Result<Closing<Tally>, Fail>
+    first: Pass<Tally, NoKeep>,
+    second: Pass<Tally, NoKeep>,
+) -> Result<Closing<Tally, NoKeep>, Fail>
     requires own { IsOf store first × IsOf store second }
     requires nothing { HoldsNothing first.seat × HoldsNothing second.seat }
-    requires every { (store.limits.passes ≡ 2) × (number_of_pass first ≡ 0) × (number_of_pass second ≡ 1) × (passes.items ≡ []) }
+    requires every { (store.seats ≡ 2) × (number_of_pass first ≡ 0) × (number_of_pass second ≡ 1) × (passes.items ≡ []) }
 {
     passes.push(first)?;
     passes.push(second)?;
@@ -121,7 +121,7 @@ fn threads_commit_to_stripes_apart_and_together(rt: HostRuntime) -> Result<(), F
         assert_eq!(rt; (first.number(), first.used(), first.wide()), (0, 0, 3));
         assert_eq!(rt; (second.number(), second.used(), second.wide()), (1, 0, 3));
         let closing = closed(store, passes, first, second)?;
-        let Closing { journal, parts } = closing;
+        let Closing { journal, parts, .. } = closing;
         assert_eq!(rt; journal.len(), 100, "{apart}");
         let expected = replayed(rt.alloc(), &journal)?;
         assert_eq!(rt; parts, expected, "{apart}");
@@ -149,7 +149,7 @@ fn a_full_store_refuses_and_hands_back(rt: HostRuntime) -> Result<(), Fail> {
     };
     assert_eq!(rt; tallied(&rt, &store, &mut second, 2, 1), Err(refused));
     assert_eq!(rt; (first.wide(), second.wide()), (3, 0));
-    let Closing { journal, parts } = closed(store, passes, first, second)?;
+    let Closing { journal, parts, .. } = closed(store, passes, first, second)?;
     assert_eq!(rt; (journal.len(), journal.limits().journal_max()), (1, 1));
     let expected = replayed(rt.alloc(), &journal)?;
     assert_eq!(rt; parts, expected);
@@ -175,7 +175,7 @@ fn a_pass_narrows_and_finishes(rt: HostRuntime) -> Result<(), Fail> {
     };
     assert_eq!(rt; narrowed(&rt, &store, &mut first, 0, 63), Some(receipt));
     assert_eq!(rt; first.wide(), 128);
-    let Closing { journal, parts } = closed(store, passes, first, second)?;
+    let Closing { journal, parts, .. } = closed(store, passes, first, second)?;
     assert_eq!(rt; journal.len(), 1);
     assert_eq!(rt; parts.get(63), Some(&1));
     Ok(())

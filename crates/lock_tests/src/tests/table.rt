@@ -3,7 +3,7 @@ ghost use Rattle.std.specs.Thread.{IsSync};
 ghost use Rattle.lock_core.specs.Tallied.{tally};
 ghost use Rattle.path_locks.specs.Views.{number_of, HoldsNothing, IsSameSeat, IsNewSeat, AreNewSeats};
 
-use commit_journal::{Journal, Limits};
+use commit_journal::{Journal, Limits, NoKeep};
 use lock_core::{LockMode, Parted, Tally, TallyEntry};
 use path_locks::{LockTable, Plan, Seat};
 use std::alloc::Global;
@@ -12,9 +12,9 @@ use std::test::Fail;
 use std::thread;
 use std::thread::Threads;
 
-type Seats = Vec<Seat<Tally>>;
+type Seats = Vec<Seat<Tally, NoKeep>>;
 
-fn opened(alloc: Global, seats: u32) -> Result<(LockTable<Tally>, Seats), Fail>
+fn opened(alloc: Global, seats: u32) -> Result<(LockTable<Tally, NoKeep>, Seats), Fail>
     requires { (1 ≤ seats) × (seats ≤ 64) }
     ensures many { IfOk result (λ r. (r.0.seats ≡ seats) × (length r.1.items ≡ seats)) }
     ensures new { IfOk result (λ r. AreNewSeats tally r.0 r.1.items) }
@@ -22,11 +22,11 @@ fn opened(alloc: Global, seats: u32) -> Result<(LockTable<Tally>, Seats), Fail>
     let limits = Limits::new(2, 9, 100, 1).ok_or("no limits")?;
     let parts = Tally::opening_parts(alloc)?;
     let journal = Journal::new(alloc, &limits);
-    Ok(LockTable::<Tally>::start(alloc, parts, journal, seats)?)
+    Ok(LockTable::<Tally, NoKeep>::start(alloc, parts, journal, seats, NoKeep)?)
 }
 
 /// The last of the new seats.
-fn popped(table: &LockTable<Tally>, seats: &mut Seats) -> Result<Seat<Tally>, Fail>
+fn popped(table: &LockTable<Tally, NoKeep>, seats: &mut Seats) -> Result<Seat<Tally, NoKeep>, Fail>
     requires { AreNewSeats tally table.now seats.old.items }
     ensures new { AreNewSeats tally table.now seats.new.items }
     ensures fewer { OnOk result (length seats.new.items + 1 ≡ length seats.old.items) }
@@ -39,7 +39,7 @@ fn popped(table: &LockTable<Tally>, seats: &mut Seats) -> Result<Seat<Tally>, Fa
 }
 
 /// Takes two neighbours exclusively, a thousand times.
-fn churned<R: Wait>(rt: &R, table: &LockTable<Tally>, mut seat: Seat<Tally>, low: u8) -> Seat<Tally>
+fn churned<R: Wait>(rt: &R, table: &LockTable<Tally, NoKeep>, mut seat: Seat<Tally, NoKeep>, low: u8) -> Seat<Tally, NoKeep>
     requires own { (seat.table ≡ table.now.id) × (low < 63) }
     requires nothing { HoldsNothing seat }
     ensures same { IsSameSeat seat result }
@@ -58,20 +58,20 @@ fn churned<R: Wait>(rt: &R, table: &LockTable<Tally>, mut seat: Seat<Tally>, low
 /// One thread takes stripes 1 and 2, and another 2 and 3.
 fn both_churned<R: Threads + Wait + Sync>(
     rt: &R,
-    table: &LockTable<Tally>,
-    first: Seat<Tally>,
-    second: Seat<Tally>,
-) -> (Seat<Tally>, Seat<Tally>)
+    table: &LockTable<Tally, NoKeep>,
+    first: Seat<Tally, NoKeep>,
+    second: Seat<Tally, NoKeep>,
+) -> (Seat<Tally, NoKeep>, Seat<Tally, NoKeep>)
     requires own { (first.table ≡ table.now.id) × (second.table ≡ table.now.id) }
     requires nothing { HoldsNothing first × HoldsNothing second }
     ensures same { IsSameSeat first result.0 × IsSameSeat second result.1 }
     ensures nothing { HoldsNothing result.0 × HoldsNothing result.1 }
 {
-    let low = move || -> Seat<Tally>
+    let low = move || -> Seat<Tally, NoKeep>
         requires { IsSync R.row × (first.table ≡ table.now.id) × HoldsNothing first }
         ensures { IsSameSeat first result × HoldsNothing result }
     { churned(rt, table, first, 1) };
-    let high = move || -> Seat<Tally>
+    let high = move || -> Seat<Tally, NoKeep>
         requires { IsSync R.row × (second.table ≡ table.now.id) × HoldsNothing second }
         ensures { IsSameSeat second result × HoldsNothing result }
     { churned(rt, table, second, 2) };
@@ -80,11 +80,11 @@ fn both_churned<R: Threads + Wait + Sync>(
 
 /// Closes a table of two seats.
 fn closed(
-    table: LockTable<Tally>,
+    table: LockTable<Tally, NoKeep>,
     mut seats: Seats,
-    first: Seat<Tally>,
-    second: Seat<Tally>,
-) -> Result<(Vec<u64>, Journal<TallyEntry>), Fail>
+    first: Seat<Tally, NoKeep>,
+    second: Seat<Tally, NoKeep>,
+) -> Result<(Vec<u64>, Journal<TallyEntry>, NoKeep), Fail>
     requires own { (first.table ≡ table.id) × (second.table ≡ table.id) }
     requires nothing { HoldsNothing first × HoldsNothing second }
     requires every { (table.seats ≡ 2) × (number_of first ≡ 0) × (number_of second ≡ 1) × (seats.items ≡ []) }
@@ -100,7 +100,7 @@ fn two_seats_meet_on_a_stripe(rt: HostRuntime) -> Result<(), Fail> {
     let second = popped(&table, &mut seats)?;
     let first = popped(&table, &mut seats)?;
     let (first, second) = both_churned(&rt, &table, first, second);
-    let (parts, journal) = closed(table, seats, first, second)?;
+    let (parts, journal, _keeper) = closed(table, seats, first, second)?;
     let opening = Tally::opening_parts(rt.alloc())?;
     assert_eq!(rt; parts, opening);
     assert!(rt; journal.is_empty());
@@ -123,7 +123,7 @@ fn a_plan_is_held_and_given_back(rt: HostRuntime) -> Result<(), Fail> {
     let held = table.acquire(&rt, &mut first, &plan);
     assert_eq!(rt; held.wide(), 4);
     table.release(&mut first, held);
-    let (parts, journal) = closed(table, seats, first, second)?;
+    let (parts, journal, _keeper) = closed(table, seats, first, second)?;
     assert_eq!(rt; (parts.len(), journal.len()), (64, 0));
     assert_eq!(rt; journal.limits().journal_max(), 9);
     Ok(())

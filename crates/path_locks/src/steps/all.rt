@@ -5,14 +5,15 @@ ghost use Rattle.path_locks.specs.Holding.{IsSized, IsReheld, HoldsBelow};
 use super::stripe::{give_stripe, take_stripe};
 use crate::plan::Plan;
 use crate::rule::{LockSeat, LockWords};
+use commit_journal::Keeper;
 use lock_core::Parted;
 use std::sync::Wait;
 
 /// Takes the stripes of the plan, from the lowest to the highest.
-pub(crate) fn take_all<R: Wait, P: Parted>(
-    words: &LockWords<P>,
+pub(crate) fn take_all<R: Wait, P: Parted, K: Keeper<P::Entry>>(
+    words: &LockWords<P, K>,
     rt: &R,
-    seat: &mut LockSeat<P>,
+    seat: &mut LockSeat<P, K>,
     parts: &mut Vec<Option<P::Part>>,
     plan: &Plan,
 )
@@ -29,9 +30,9 @@ pub(crate) fn take_all<R: Wait, P: Parted>(
 }
 
 /// Gives back the stripes of the plan, which the seat holds, from the highest to the lowest.
-pub(crate) fn give_all<P: Parted>(
-    words: &LockWords<P>,
-    seat: &mut LockSeat<P>,
+pub(crate) fn give_all<P: Parted, K: Keeper<P::Entry>>(
+    words: &LockWords<P, K>,
+    seat: &mut LockSeat<P, K>,
     parts: &mut Vec<Option<P::Part>>,
     plan: &Plan,
 )

@@ -9,12 +9,13 @@ ghost use Rattle.path_locks.specs.Holding.{IsSized};
 
 use crate::plays::{GivesExclusive, TakesExclusive};
 use crate::rule::{LockSeat, LockWords, Slot};
+use commit_journal::Keeper;
 use lock_core::Parted;
 
 /// Takes the stripe exclusively, where nobody holds it, and answers its part. The slot stays in hand, empty.
-pub(crate) fn try_exclusive<P: Parted>(
-    words: &LockWords<P>,
-    seat: &mut LockSeat<P>,
+pub(crate) fn try_exclusive<P: Parted, K: Keeper<P::Entry>>(
+    words: &LockWords<P, K>,
+    seat: &mut LockSeat<P, K>,
     stripe: u8,
 ) -> Option<P::Part>
     requires own { (seat.old.table_id ≡ words.now.table_id) × IsSized words.now.table_id }
@@ -25,7 +26,10 @@ pub(crate) fn try_exclusive<P: Parted>(
         (λ part. Holds P.object seat.old.me stripe (Exclusive (P.bare part)) ((stripe, Empty) ∷ seat.old.me.1) seat.new.me) }
 {
     let stripe = stripe as usize;
-    if words.compare_exchange::<TakesExclusive<P>>(seat, stripe, 0, 4294967296) != 0 {
+    if words.peek(stripe) != 0 {
+        return None;
+    }
+    if words.compare_exchange::<TakesExclusive<P, K>>(seat, stripe, 0, 4294967296) != 0 {
         return None;
     }
     match words.exchange(seat, stripe, Slot::Empty) {
@@ -35,9 +39,9 @@ pub(crate) fn try_exclusive<P: Parted>(
 }
 
 /// Gives back the stripe, which the seat holds exclusively, with its part.
-pub(crate) fn give_exclusive<P: Parted>(
-    words: &LockWords<P>,
-    seat: &mut LockSeat<P>,
+pub(crate) fn give_exclusive<P: Parted, K: Keeper<P::Entry>>(
+    words: &LockWords<P, K>,
+    seat: &mut LockSeat<P, K>,
     stripe: u8,
     part: P::Part,
 )
@@ -50,5 +54,5 @@ pub(crate) fn give_exclusive<P: Parted>(
 {
     let stripe = stripe as usize;
     words.exchange(seat, stripe, Slot::Part(part));
-    words.store::<GivesExclusive<P>>(seat, stripe, 0);
+    words.store::<GivesExclusive<P, K>>(seat, stripe, 0);
 }

@@ -10,14 +10,15 @@ ghost use Rattle.path_locks.specs.Holding.{IsSized};
 ghost use Rattle.path_locks.specs.Moves.{TookLatch, GaveLatch, LookedAt};
 
 use crate::plays::{GivesLatch, TakesLatch};
+use super::pause;
 use crate::rule::{LockSeat, LockWords, Slot};
+use commit_journal::Keeper;
 use lock_core::Parted;
 use std::sync::Wait;
-use std::thread;
 
 /// Takes the latch of a stripe that the seat holds shared, where nobody has it, and answers the part. The slot stays in
 /// hand, empty.
-fn try_latch<P: Parted>(words: &LockWords<P>, seat: &mut LockSeat<P>, stripe: u8) -> Option<P::Part>
+fn try_latch<P: Parted, K: Keeper<P::Entry>>(words: &LockWords<P, K>, seat: &mut LockSeat<P, K>, stripe: u8) -> Option<P::Part>
     requires own { (seat.old.table_id ≡ words.now.table_id) × IsSized words.now.table_id }
     requires may { (stripe < 64) × MayGive mode.Shared seat.old.me.0.at stripe }
     ensures own { (seat.new.table_id ≡ seat.old.table_id) × (seat.new.id ≡ seat.old.id) }
@@ -26,7 +27,10 @@ fn try_latch<P: Parted>(words: &LockWords<P>, seat: &mut LockSeat<P>, stripe: u8
         (λ part. TookLatch P.object seat.old.me stripe (P.bare part) ((stripe, Empty) ∷ seat.old.me.1) seat.new.me) }
 {
     let stripe = stripe as usize;
-    if words.compare_exchange::<TakesLatch<P>>(seat, 64 + stripe, 0, 1) != 0 {
+    if words.peek(64 + stripe) != 0 {
+        return None;
+    }
+    if words.compare_exchange::<TakesLatch<P, K>>(seat, 64 + stripe, 0, 1) != 0 {
         return None;
     }
     match words.exchange(seat, stripe, Slot::Empty) {
@@ -36,10 +40,10 @@ fn try_latch<P: Parted>(words: &LockWords<P>, seat: &mut LockSeat<P>, stripe: u8
 }
 
 /// Waits for the latch of a stripe that the seat holds shared, and takes it, with the part.
-fn lock_latch<R: Wait, P: Parted>(
-    words: &LockWords<P>,
+fn lock_latch<R: Wait, P: Parted, K: Keeper<P::Entry>>(
+    words: &LockWords<P, K>,
     rt: &R,
-    seat: &mut LockSeat<P>,
+    seat: &mut LockSeat<P, K>,
     stripe: u8,
 ) -> P::Part
     requires own { (seat.old.table_id ≡ words.now.table_id) × IsSized words.now.table_id }
@@ -47,17 +51,18 @@ fn lock_latch<R: Wait, P: Parted>(
     ensures own { (seat.new.table_id ≡ seat.old.table_id) × (seat.new.id ≡ seat.old.id) }
     ensures taken { TookLatch P.object seat.old.me stripe (P.bare result) ((stripe, Empty) ∷ seat.old.me.1) seat.new.me }
 {
+    let mut turns = 0u8;
     for _ in rt.forever() {
         if let Some(part) = try_latch(words, seat, stripe) {
             return part;
         }
-        thread::yield_now();
+        turns = pause(turns);
     }
     unreachable!()
 }
 
 /// Gives back the latch of a stripe, with the part.
-fn give_latch<P: Parted>(words: &LockWords<P>, seat: &mut LockSeat<P>, stripe: u8, part: P::Part)
+fn give_latch<P: Parted, K: Keeper<P::Entry>>(words: &LockWords<P, K>, seat: &mut LockSeat<P, K>, stripe: u8, part: P::Part)
     requires own { (seat.old.table_id ≡ words.now.table_id) × IsSized words.now.table_id }
     requires may { (stripe < 64) × (seat.old.me.0.at.live ≡ true) × (seat.old.me.0.at.latch ≡ Some stripe) }
     requires part { note_of (hold_at seat.old.me.0.at.holds stripe) ≡ some (P.bare part) }
@@ -67,14 +72,14 @@ fn give_latch<P: Parted>(words: &LockWords<P>, seat: &mut LockSeat<P>, stripe: u
 {
     let stripe = stripe as usize;
     words.exchange(seat, stripe, Slot::Part(part));
-    words.store::<GivesLatch<P>>(seat, 64 + stripe, 0);
+    words.store::<GivesLatch<P, K>>(seat, 64 + stripe, 0);
 }
 
 /// Looks at the part of a stripe that the seat holds shared, under its latch.
-pub(crate) fn look_shared<R: Wait, P: Parted, T, F: FnOnce(&P::Part) -> T>(
-    words: &LockWords<P>,
+pub(crate) fn look_shared<R: Wait, P: Parted, K: Keeper<P::Entry>, T, F: FnOnce(&P::Part) -> T>(
+    words: &LockWords<P, K>,
     rt: &R,
-    seat: &mut LockSeat<P>,
+    seat: &mut LockSeat<P, K>,
     stripe: u8,
     f: F,
 ) -> T

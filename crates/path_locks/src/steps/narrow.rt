@@ -15,10 +15,11 @@ use super::stripe::pick;
 use crate::plan::Plan;
 use crate::plays::MakesShared;
 use crate::rule::{LockSeat, LockWords, Slot};
+use commit_journal::Keeper;
 use lock_core::{LockMode, Parted};
 
 /// Gives back the part of a stripe that the seat holds exclusively, and holds the stripe shared.
-fn make_shared<P: Parted>(words: &LockWords<P>, seat: &mut LockSeat<P>, stripe: u8, part: P::Part)
+fn make_shared<P: Parted, K: Keeper<P::Entry>>(words: &LockWords<P, K>, seat: &mut LockSeat<P, K>, stripe: u8, part: P::Part)
     requires own { (seat.old.table_id ≡ words.now.table_id) × IsSized words.now.table_id }
     requires may { (stripe < 64) × MayGive locked.Exclusive seat.old.me.0.at stripe }
     requires part { hold_at seat.old.me.0.at.holds stripe ≡ Exclusive (P.bare part) }
@@ -28,7 +29,7 @@ fn make_shared<P: Parted>(words: &LockWords<P>, seat: &mut LockSeat<P>, stripe: 
 {
     let stripe = stripe as usize;
     words.exchange(seat, stripe, Slot::Part(part));
-    words.store::<MakesShared<P>>(seat, stripe, 1);
+    words.store::<MakesShared<P, K>>(seat, stripe, 1);
 }
 
 /// Takes the part that is in a place, which is then empty.
@@ -44,9 +45,9 @@ fn take_part<T: Drop>(parts: &mut Vec<Option<T>>, at: usize) -> T
 }
 
 /// Leaves what is kept of a stripe that the seat holds shared.
-fn narrow_shared<P: Parted>(
-    words: &LockWords<P>,
-    seat: &mut LockSeat<P>,
+fn narrow_shared<P: Parted, K: Keeper<P::Entry>>(
+    words: &LockWords<P, K>,
+    seat: &mut LockSeat<P, K>,
     parts: &Vec<Option<P::Part>>,
     stripe: u8,
     keep: LockMode,
@@ -67,9 +68,9 @@ fn narrow_shared<P: Parted>(
 }
 
 /// Leaves what is kept of a stripe that the seat holds exclusively.
-fn narrow_exclusive<P: Parted>(
-    words: &LockWords<P>,
-    seat: &mut LockSeat<P>,
+fn narrow_exclusive<P: Parted, K: Keeper<P::Entry>>(
+    words: &LockWords<P, K>,
+    seat: &mut LockSeat<P, K>,
     parts: &mut Vec<Option<P::Part>>,
     stripe: u8,
     keep: LockMode,
@@ -95,9 +96,9 @@ fn narrow_exclusive<P: Parted>(
 }
 
 /// Leaves what is kept of a stripe that the seat holds in a mode.
-fn narrow_stripe<P: Parted>(
-    words: &LockWords<P>,
-    seat: &mut LockSeat<P>,
+fn narrow_stripe<P: Parted, K: Keeper<P::Entry>>(
+    words: &LockWords<P, K>,
+    seat: &mut LockSeat<P, K>,
     parts: &mut Vec<Option<P::Part>>,
     stripe: u8,
     mode: LockMode,
@@ -120,9 +121,9 @@ fn narrow_stripe<P: Parted>(
 }
 
 /// Leaves what a plan keeps of what the seat holds, from the highest stripe to the lowest.
-pub(crate) fn narrow_all<P: Parted>(
-    words: &LockWords<P>,
-    seat: &mut LockSeat<P>,
+pub(crate) fn narrow_all<P: Parted, K: Keeper<P::Entry>>(
+    words: &LockWords<P, K>,
+    seat: &mut LockSeat<P, K>,
     parts: &mut Vec<Option<P::Part>>,
     plan: &Plan,
     keep: &Plan,

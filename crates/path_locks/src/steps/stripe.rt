@@ -6,18 +6,20 @@ ghost use Rattle.lock_core.specs.Machine.{HeldIn, hold_at};
 ghost use Rattle.path_locks.specs.Plays.{MayTake, Holds};
 ghost use Rattle.path_locks.specs.Holding.{IsSized, HoldsBelow, HeldAnew};
 
+use super::pause;
 use super::exclusive::{give_exclusive, try_exclusive};
 use super::shared::{give_shared, try_shared};
 use crate::rule::{LockSeat, LockWords};
+use commit_journal::Keeper;
 use lock_core::{LockMode, Parted};
 use std::sync::Wait;
-use std::{mem, thread};
+use std::mem;
 
 /// Waits for the stripe and takes it exclusively, with its part.
-fn lock_exclusive<R: Wait, P: Parted>(
-    words: &LockWords<P>,
+fn lock_exclusive<R: Wait, P: Parted, K: Keeper<P::Entry>>(
+    words: &LockWords<P, K>,
     rt: &R,
-    seat: &mut LockSeat<P>,
+    seat: &mut LockSeat<P, K>,
     stripe: u8,
 ) -> P::Part
     requires own { (seat.old.table_id ≡ words.now.table_id) × IsSized words.now.table_id }
@@ -25,27 +27,29 @@ fn lock_exclusive<R: Wait, P: Parted>(
     ensures own { (seat.new.table_id ≡ seat.old.table_id) × (seat.new.id ≡ seat.old.id) }
     ensures taken { Holds P.object seat.old.me stripe (Exclusive (P.bare result)) ((stripe, Empty) ∷ seat.old.me.1) seat.new.me }
 {
+    let mut turns = 0u8;
     for _ in rt.forever() {
         if let Some(part) = try_exclusive(words, seat, stripe) {
             return part;
         }
-        thread::yield_now();
+        turns = pause(turns);
     }
     unreachable!()
 }
 
 /// Waits for the stripe and takes it shared.
-fn lock_shared<R: Wait, P: Parted>(words: &LockWords<P>, rt: &R, seat: &mut LockSeat<P>, stripe: u8)
+fn lock_shared<R: Wait, P: Parted, K: Keeper<P::Entry>>(words: &LockWords<P, K>, rt: &R, seat: &mut LockSeat<P, K>, stripe: u8)
     requires own { (seat.old.table_id ≡ words.now.table_id) × IsSized words.now.table_id }
     requires may { (stripe < 64) × MayTake seat.old.me.0.at stripe }
     ensures own { (seat.new.table_id ≡ seat.old.table_id) × (seat.new.id ≡ seat.old.id) }
     ensures taken { Holds P.object seat.old.me stripe Shared seat.old.me.1 seat.new.me }
 {
+    let mut turns = 0u8;
     for _ in rt.forever() {
         if try_shared(words, seat, stripe) {
             return;
         }
-        thread::yield_now();
+        turns = pause(turns);
     }
     unreachable!()
 }
@@ -68,10 +72,10 @@ pub(crate) fn pick<T: Drop>(parts: &mut Vec<Option<T>>, at: usize) -> Option<T>
 }
 
 /// Takes a stripe in a mode, above all that the seat holds.
-pub(crate) fn take_stripe<R: Wait, P: Parted>(
-    words: &LockWords<P>,
+pub(crate) fn take_stripe<R: Wait, P: Parted, K: Keeper<P::Entry>>(
+    words: &LockWords<P, K>,
     rt: &R,
-    seat: &mut LockSeat<P>,
+    seat: &mut LockSeat<P, K>,
     parts: &mut Vec<Option<P::Part>>,
     stripe: u8,
     mode: LockMode,
@@ -93,9 +97,9 @@ pub(crate) fn take_stripe<R: Wait, P: Parted>(
 }
 
 /// Gives back the stripe, the last one that the seat took, which it holds in a mode.
-pub(crate) fn give_stripe<P: Parted>(
-    words: &LockWords<P>,
-    seat: &mut LockSeat<P>,
+pub(crate) fn give_stripe<P: Parted, K: Keeper<P::Entry>>(
+    words: &LockWords<P, K>,
+    seat: &mut LockSeat<P, K>,
     parts: &mut Vec<Option<P::Part>>,
     stripe: u8,
     mode: LockMode,

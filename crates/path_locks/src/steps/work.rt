@@ -16,6 +16,9 @@ fn reserve_at<P: Parted>(
     ensures changed { IsChangedAt P.bare (λ q. q) at parts.old.items parts.new.items }
     ensures ready { IfOk result (λ _. (q : Option P.Part) × (slice_get parts.new.items at ≡ Some q) × IsReady P.ready work.now q) }
 {
+    if parts[at].is_none() {
+        return Ok(());
+    }
     match pick(parts, at) {
         None => Ok(()),
         Some(mut part) => {
@@ -48,6 +51,9 @@ fn apply_at<P: Parted>(parts: &mut Vec<Option<P::Part>>, at: usize, work: &P::Wo
     requires ready { (q : Option P.Part) × (slice_get parts.old.items at ≡ Some q) × IsReady P.ready work.now q }
     ensures { IsChangedAt P.bare (worked P.applied work.now number) at parts.old.items parts.new.items }
 {
+    if parts[at].is_none() {
+        return;
+    }
     if let Some(mut part) = pick(parts, at) {
         P::apply(&mut part, work, number);
         put(parts, at, part);

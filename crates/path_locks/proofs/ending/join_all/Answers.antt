@@ -9,15 +9,15 @@ pub loop-other-init : goal.loop-other-init
 loop-other-init g c =
     let e = c.in-Some.ensures.items in
     let at = last_is c.args.seats.items c.pop.new.self.items c.in-Some.last e in
-    let s : SeatView g.row.P-Part.Denot g.row.P-Entry.Denot =
+    let s : SeatView g.row.P-Part.Denot g.row.P-Entry.Denot g.row.K.Denot =
     record { table = c.last.inside.seat.table_id; id = c.last.inside.seat.id; me = c.last.inside.seat.me; room = c.last.inside.room.items } in
-    let nothing : HoldsNothing s = subst (λ (z : SeatView g.row.P-Part.Denot g.row.P-Entry.Denot). HoldsNothing z) (sym c.last.view_is) (c.requires.every.nothing _ _ at) in
+    let nothing : HoldsNothing s = subst (λ (z : SeatView g.row.P-Part.Denot g.row.P-Entry.Denot g.row.K.Denot). HoldsNothing z) (sym c.last.view_is) (c.requires.every.nothing _ _ at) in
     record {
-      own = ap (λ (z : SeatView g.row.P-Part.Denot g.row.P-Entry.Denot). z.table) c.last.view_is ∙ c.requires.every.own _ _ at;
+      own = ap (λ (z : SeatView g.row.P-Part.Denot g.row.P-Entry.Denot g.row.K.Denot). z.table) c.last.view_is ∙ c.requires.every.own _ _ at;
       rest = record { live = c.last.invariant.stands.live; idle = nothing.idle };
       left = left_are c.args.seats.items c.pop.new.self.items c.args.seats.items c.in-Some.last e (λ k z p. p);
       known = left_or_known c.args.seats.items c.pop.new.self.items c.args.seats.items c.in-Some.last c.last.inside.seat.me.0 c.last.inside.seat.me.0 e (λ k z p. inl p) (λ p k. k)
-          (subst (λ (z : SeatView g.row.P-Part.Denot g.row.P-Entry.Denot). Knew c.last.inside.seat.me.0 (known z.me.0.at)) c.last.view_is (itself refl refl refl));
+          (subst (λ (z : SeatView g.row.P-Part.Denot g.row.P-Entry.Denot g.row.K.Denot). Knew c.last.inside.seat.me.0 (known z.me.0.at)) c.last.view_is (itself refl refl refl));
     }
 
 pub join_in-requires-clause-own : goal.join_in-requires-clause-own

@@ -8,8 +8,8 @@ abbrev pub invariant-loop-other : goal.invariant-loop-other
 invariant-loop-other g l = record {
   own : l.seat.table_id ≡ l.words.table_id;
   rest : IsResting l.seat.me.0.at;
-  left : (k : ℕ) (s : SeatView g.row.P-Part.Denot g.row.P-Entry.Denot) → slice_get l.seats.items k ≡ Some s → slice_get l.fn.seats.items k ≡ Some s;
-  known : (k : ℕ) (s : SeatView g.row.P-Part.Denot g.row.P-Entry.Denot) → slice_get l.fn.seats.items k ≡ Some s
+  left : (k : ℕ) (s : SeatView g.row.P-Part.Denot g.row.P-Entry.Denot g.row.K.Denot) → slice_get l.seats.items k ≡ Some s → slice_get l.fn.seats.items k ≡ Some s;
+  known : (k : ℕ) (s : SeatView g.row.P-Part.Denot g.row.P-Entry.Denot g.row.K.Denot) → slice_get l.fn.seats.items k ≡ Some s
       → (slice_get l.seats.items k ≡ Some s) ⊎ Knew l.seat.me.0 (known s.me.0.at);
 }
 

@@ -9,5 +9,5 @@ returns-clause-kept g c = λ p k. knew_kept c.args.seat.now.me c.join_seats.new.
 
 pub returns-clause-new : goal.returns-clause-new
 returns-clause-new g c =
-    subst (λ (z : SeatView g.row.P-Part.Denot g.row.P-Entry.Denot). Knew c.join_seats.new.seat.me.0 (known z.me.0.at)) c.other.view_is
+    subst (λ (z : SeatView g.row.P-Part.Denot g.row.P-Entry.Denot g.row.K.Denot). Knew c.join_seats.new.seat.me.0 (known z.me.0.at)) c.other.view_is
     (knew_new c.args.seat.now.me c.join_seats.new.seat.me c.other.inside.seat.me.0 c.join_seats.ensures.joined)

@@ -8,7 +8,7 @@ pub compare_exchange-requires : goal.compare_exchange-requires
 compare_exchange-requires g c = (
   c.requires.own.0,
   search rules,
-  may_take_exclusive g.P.Parted.object g.met.P.Parted.lawful g.P.Parted.bare _ _ _ _ _ c.requires.may.0 c.requires.may.1,
+  may_take_exclusive g.P.Parted.object g.met.P.Parted.lawful g.P.Parted.bare g.K.Keeper.tells _ _ _ _ _ c.requires.may.0 c.requires.may.1,
 )
 
 pub exchange-requires : goal.exchange-requires

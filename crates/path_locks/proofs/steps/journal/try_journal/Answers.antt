@@ -8,9 +8,9 @@ pub compare_exchange-requires : goal.compare_exchange-requires
 compare_exchange-requires g c = (
   c.requires.own.0,
   search rules,
-  may_take_journal g.P.Parted.object g.P.Parted.bare _ _ _ _ c.requires.quiet,
+  may_take_journal g.P.Parted.object g.P.Parted.bare g.K.Keeper.tells _ _ _ _ c.requires.quiet,
 )
 
 pub exchange-requires : goal.exchange-requires
 exchange-requires g c = let t = c.compare_exchange.ensures.2.0 c.if-compare_exchange-ne0.false in
-    (search rules, (Book t.0, t.1.hand_is ∙ ap (λ cs. (64, Book t.0) ∷ rest cs) (sym t.1.hand_is)))
+    (search rules, (Book t.0 t.1, t.2.hand_is ∙ ap (λ cs. (64, Book t.0 t.1) ∷ rest cs) (sym t.2.hand_is)))

@@ -6,6 +6,6 @@ pub store-requires : goal.store-requires
 store-requires g c = (
   c.exchange.ensures.0 ∙ c.requires.own.0,
   search rules,
-  may_put_latch g.P.Parted.object g.met.P.Parted.lawful g.P.Parted.bare _ _ _ c.args.seat.now.me c.exchange.new.seat.me _ _ c.exchange.ensures.3 c.requires.may.0 c.requires.may.1 c.requires.may.2
+  may_put_latch g.P.Parted.object g.met.P.Parted.lawful g.P.Parted.bare g.K.Keeper.tells _ _ _ c.args.seat.now.me c.exchange.new.seat.me _ _ c.exchange.ensures.3 c.requires.may.0 c.requires.may.1 c.requires.may.2
       c.requires.part,
 )

@@ -8,5 +8,5 @@ join_seat-requires g c = (
   c.requires.own.1,
   c.requires.rest.2,
   search rules,
-  may_join g.P.Parted.object g.P.Parted.bare _ _ _ _ _ c.requires.rest.0 c.requires.rest.1,
+  may_join g.P.Parted.object g.P.Parted.bare g.K.Keeper.tells _ _ _ _ _ c.requires.rest.0 c.requires.rest.1,
 )

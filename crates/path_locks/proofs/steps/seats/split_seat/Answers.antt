@@ -6,5 +6,5 @@ pub split_seat-requires : goal.split_seat-requires
 split_seat-requires g c = (
   c.requires.own.0,
   search rules,
-  may_split g.P.Parted.object g.P.Parted.bare _ _ _ c.requires.room.0 c.requires.room.1 c.requires.live,
+  may_split g.P.Parted.object g.P.Parted.bare g.K.Keeper.tells _ _ _ c.requires.room.0 c.requires.room.1 c.requires.live,
 )

@@ -6,19 +6,19 @@ use Rattle.path_locks.proofs.table.LockTable.drop_extra.Goals as goal
 
 pub narrow_all-requires-clause-holds : goal.narrow_all-requires-clause-holds
 narrow_all-requires-clause-holds g c =
-    let s : SeatView g.row.P-Part.Denot g.row.P-Entry.Denot =
+    let s : SeatView g.row.P-Part.Denot g.row.P-Entry.Denot g.row.K.Denot =
     record { table = c.seat.inside.seat.table_id; id = c.seat.inside.seat.id; me = c.seat.inside.seat.me; room = c.seat.inside.room.items } in
     let h : HeldView g.row.P-Part.Denot = record { modes = c.held.inside.plan; parts = c.held.inside.parts.items; wide = c.held.inside.wide } in
-    let held : IsHeldBy g.P.Parted.bare s h = subst (λ (z : SeatView g.row.P-Part.Denot g.row.P-Entry.Denot). IsHeldBy g.P.Parted.bare z h) (sym c.seat.view_is)
+    let held : IsHeldBy g.P.Parted.bare s h = subst (λ (z : SeatView g.row.P-Part.Denot g.row.P-Entry.Denot g.row.K.Denot). IsHeldBy g.P.Parted.bare z h) (sym c.seat.view_is)
     (subst (λ (z : HeldView g.row.P-Part.Denot). IsHeldBy g.P.Parted.bare c.args.seat.now z) (sym c.held.view_is) c.requires.held) in
-    below_held g.P.Parted.object g.P.Parted.bare s h held (ap (λ (z : SeatView g.row.P-Part.Denot g.row.P-Entry.Denot). has_journal z) c.seat.view_is ∙ c.requires.journal) c.seat.invariant.stands
+    below_held g.P.Parted.object g.P.Parted.bare s h held (ap (λ (z : SeatView g.row.P-Part.Denot g.row.P-Entry.Denot g.row.K.Denot). has_journal z) c.seat.view_is ∙ c.requires.journal) c.seat.invariant.stands
 
 pub narrow_all-requires-clause-held : goal.narrow_all-requires-clause-held
 narrow_all-requires-clause-held g c =
-    let s : SeatView g.row.P-Part.Denot g.row.P-Entry.Denot =
+    let s : SeatView g.row.P-Part.Denot g.row.P-Entry.Denot g.row.K.Denot =
     record { table = c.seat.inside.seat.table_id; id = c.seat.inside.seat.id; me = c.seat.inside.seat.me; room = c.seat.inside.room.items } in
     let h : HeldView g.row.P-Part.Denot = record { modes = c.held.inside.plan; parts = c.held.inside.parts.items; wide = c.held.inside.wide } in
-    let held : IsHeldBy g.P.Parted.bare s h = subst (λ (z : SeatView g.row.P-Part.Denot g.row.P-Entry.Denot). IsHeldBy g.P.Parted.bare z h) (sym c.seat.view_is)
+    let held : IsHeldBy g.P.Parted.bare s h = subst (λ (z : SeatView g.row.P-Part.Denot g.row.P-Entry.Denot g.row.K.Denot). IsHeldBy g.P.Parted.bare z h) (sym c.seat.view_is)
     (subst (λ (z : HeldView g.row.P-Part.Denot). IsHeldBy g.P.Parted.bare c.args.seat.now z) (sym c.held.view_is) c.requires.held) in
     held.modes
 

@@ -33,11 +33,11 @@ invariant_of-pass-in-Ok g c =
 
 pub returns-clause-parts : goal.returns-clause-parts
 returns-clause-parts g c = λ h is.
-    subst (λ (z : PassView g.row.P-Part.Denot g.row.P-Entry.Denot). ArePartsOf g.P.Parted.object h z.seat) c.pass.view_is (c.in-Ok.ensures.parts h is)
+    subst (λ (z : PassView g.row.P-Part.Denot g.row.P-Entry.Denot g.row.K.Denot). ArePartsOf g.P.Parted.object h z.seat) c.pass.view_is (c.in-Ok.ensures.parts h is)
 
 pub returns-clause-holds : goal.returns-clause-holds
 returns-clause-holds g c =
-    let held = subst (λ (z : PassView g.row.P-Part.Denot g.row.P-Entry.Denot). AreHeld c.pass.inside.plan 64 z.seat.me.0.at.holds) c.pass.view_is c.pass.invariant.0.held in
+    let held = subst (λ (z : PassView g.row.P-Part.Denot g.row.P-Entry.Denot g.row.K.Denot). AreHeld c.pass.inside.plan 64 z.seat.me.0.at.holds) c.pass.view_is c.pass.invariant.0.held in
     record {
       shared = bits_of_holds c.pass.inside.plan c.args.pass.now.seat.me.0.at.holds mode.Shared c.stripes_in-shared.result held c.stripes_in-shared.ensures.whole
           c.stripes_in-shared.ensures.bits;
@@ -47,8 +47,8 @@ returns-clause-holds g c =
 
 pub returns-clause-footprint : goal.returns-clause-footprint
 returns-clause-footprint g c = λ h is.
-    let held = subst (λ (z : PassView g.row.P-Part.Denot g.row.P-Entry.Denot). AreHeld c.pass.inside.plan 64 z.seat.me.0.at.holds) c.pass.view_is c.pass.invariant.0.held in
-    let parts = subst (λ (z : PassView g.row.P-Part.Denot g.row.P-Entry.Denot). ArePartsOf g.P.Parted.object h z.seat) c.pass.view_is (c.in-Ok.ensures.parts h is) in
+    let held = subst (λ (z : PassView g.row.P-Part.Denot g.row.P-Entry.Denot g.row.K.Denot). AreHeld c.pass.inside.plan 64 z.seat.me.0.at.holds) c.pass.view_is c.pass.invariant.0.held in
+    let parts = subst (λ (z : PassView g.row.P-Part.Denot g.row.P-Entry.Denot g.row.K.Denot). ArePartsOf g.P.Parted.object h z.seat) c.pass.view_is (c.in-Ok.ensures.parts h is) in
     tells_footprint g.P.Parted.object g.met.P.Parted.lawful c.args.pass.now.seat c.args.entry h c.requires.can parts _ (record {
       shared = bits_of_holds c.pass.inside.plan c.args.pass.now.seat.me.0.at.holds mode.Shared c.stripes_in-shared.result held c.stripes_in-shared.ensures.whole
           c.stripes_in-shared.ensures.bits;

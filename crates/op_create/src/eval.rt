@@ -14,7 +14,9 @@ use super::refusals::{lacks, refused, refused_below};
 use inode_tree::{Draft, EvalStop, Fresh, NodeId, NodeIds, NodeRef, View};
 use namespace_model::{Caller, Code, Op, Reply, Request};
 use path_text::{Name, Path};
-use path_walk::{End, Find, Visit, answered, child_of, look_below, stop_reply, unheld, visit};
+use path_walk::{
+    End, Find, Visit, answered, child_of, look_below, part_names, stop_reply, unheld, visit,
+};
 use std::alloc::{AllocError, Global};
 
 /// Works out what a request to make a file or a directory replies and changes at this moment, in milliseconds since 1970 (Path - Create
@@ -159,7 +161,7 @@ fn create_in<V: View>(
     ensures grows { Grows (V.shown view.old) (V.shown view.new) }
     ensures evaluated { IsEvaluated (V.held view.old) (V.shown view.new) request.now moment fresh.now result }
 {
-    let parts = path.part_names(alloc)?;
+    let parts = part_names(alloc, path)?;
     let names = parts.as_slice();
     let depth = names.len() - 1;
     match lacks(alloc, caller, path.front(alloc, depth)?, &node) {
@@ -213,7 +215,7 @@ fn create_under<V: View>(
     requires looked { AreLookedAt (V.held view.now) (V.shown view.now) ids }
     ensures { IsEvaluated (V.held view.now) (V.shown view.now) request.now moment fresh.now result }
 {
-    let parts = path.part_names(alloc)?;
+    let parts = part_names(alloc, path)?;
     let names = parts.as_slice();
     let front = path.front(alloc, depth - 1)?;
     let refusal = refused_below(alloc, request, caller, moment, front, &node);

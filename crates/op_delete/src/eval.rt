@@ -15,7 +15,7 @@ use lease_state::may_write;
 use namespace_model::{Caller, Code, Op, Request};
 use path_text::{Name, Path};
 use path_walk::{
-    End, Find, Found, Visit, answered, look_below, refusal, stop_reply, unheld, visit,
+    End, Find, Found, Visit, answered, look_below, part_names, refusal, stop_reply, unheld, visit,
 };
 use std::alloc::Global;
 
@@ -126,7 +126,7 @@ fn delete_in<V: View>(
     ensures grows { Grows (V.shown view.old) (V.shown view.new) }
     ensures evaluated { (fresh : Fresh) → IsEvaluated (V.held view.old) (V.shown view.new) request.now moment fresh result }
 {
-    let parts = path.part_names(alloc)?;
+    let parts = part_names(alloc, path)?;
     let names = parts.as_slice();
     let name = names[names.len() - 1].copy(alloc)?;
     match look_below(view, ids.into_items(), node, &name) {

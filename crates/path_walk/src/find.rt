@@ -8,6 +8,7 @@ ghost use Rattle.path_walk.specs.Finds.{IsFindFor, IsNeedOfFind, IsLook};
 ghost use Rattle.path_walk.specs.Visits.{AreLookedAt, NeedsChild};
 
 use super::look::child_of;
+use super::names::part_names;
 use super::stop::{End, Visit};
 use super::way::visit;
 use inode_tree::{EvalStop, NodeId, NodeIds, NodeRef, View};
@@ -52,7 +53,7 @@ pub fn look_up<V: View>(
     ensures looked { IfOk result (λ f. AreLookedAt (V.held view.old) (V.shown view.new) f.ids.items) }
     ensures need { (n : Need) → result ≡ Err (stop.Need n) → IsNeedOfFind (V.held view.old) (V.shown view.new) caller.now path.now n }
 {
-    let parts = path.part_names(alloc)?;
+    let parts = part_names(alloc, path)?;
     let names = parts.as_slice();
     match visit(alloc, view, path, caller) {
         Ok(Visit { ids, node, end, .. }) => match end {

@@ -9,6 +9,8 @@
 //! `look_up` goes on to the node of the path itself, and `look_below` from a directory that was looked at to the node of one of its
 //! names. `unheld` names a stripe of the nodes that are to be written, where one isn't held for that.
 //!
+//! `part_names` copies the names of a path.
+//!
 //! `refusal`, `denial`, `stop_reply` and `closing` make the replies that all operations share, and `answered` the draft of an answer that
 //! changes nothing.
 //!
@@ -20,6 +22,7 @@ mod answer;
 mod find;
 mod hold;
 mod look;
+mod names;
 mod stop;
 mod way;
 
@@ -27,5 +30,6 @@ pub use answer::{answered, closing, denial, refusal, stop_reply};
 pub use find::{Find, Found, look_below, look_up};
 pub use hold::unheld;
 pub use look::{child_of, is_directory, may_enter};
+pub use names::part_names;
 pub use stop::{End, Visit, Walk, WalkStop};
 pub use way::{visit, walk};

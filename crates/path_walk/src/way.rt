@@ -9,6 +9,7 @@ ghost use Rattle.path_walk.specs.Trails.{IsTrail, IsStepped, IsTaken, IsEndedAt}
 ghost use Rattle.path_walk.specs.Visits.{IsVisitFor, AreLookedAt, IsOnTheWay, IsMet, IsMetUnderHold, NeedsChild, IsWalked};
 
 use super::look::{child_of, is_directory, may_enter};
+use super::names::part_names;
 use super::stop::{End, Visit, Walk, WalkStop};
 use acl_text::Perm;
 use inode_tree::{EvalStop, NodeId, NodeIds, NodeRef, View};
@@ -60,7 +61,7 @@ pub fn visit<V: View>(
     ensures looked { IfOk result (λ v. AreLookedAt (V.held view.old) (V.shown view.new) v.ids) }
     ensures need { (n : Need) → result ≡ Err (stop.Need n) → IsOnTheWay (V.held view.old) (V.shown view.new) caller.now path.now n }
 {
-    let names = path.part_names(alloc)?;
+    let names = part_names(alloc, path)?;
     follow(
         alloc,
         view,

@@ -154,9 +154,9 @@ module _ (s t : Tree) (laid_s : IsLaid s) (laid_t : IsLaid t) where
       let reads : (o : Path) → Among o (read_on s caller p) → Alike s t o = λ o k. h o (read_touched o (read_on s caller p) (ended (λ d. lost d (node_at s d)) code (next (node_at s (parent p))) (way_of s caller p)) k) in
       let way = way_same caller [] (parent p) (reads [] (inl refl)) (λ o k. reads o (inr k)) in
       let then = ended_same (λ d. lost d (node_at s d)) (λ d. lost' d (node_at t d)) code (next (node_at s (parent p))) (next' (node_at t (parent p))) (read_on s caller p) (parent p) reads
-          (λ d alike k. same_lost d (node_at s d) alike k ∙ ap (lost' d) (node_same d alike)) (λ alike k. same (node_at s (parent p)) alike k ∙ ap next' (node_same (parent p) alike))
-          (way_of s caller p) (base_read s caller [] (parent p))
-          (λ o k. h o (then_touched o (read_on s caller p) (ended (λ d. lost d (node_at s d)) code (next (node_at s (parent p))) (way_of s caller p)) k)) in
+      (λ d alike k. same_lost d (node_at s d) alike k ∙ ap (lost' d) (node_same d alike)) (λ alike k. same (node_at s (parent p)) alike k ∙ ap next' (node_same (parent p) alike))
+      (way_of s caller p) (base_read s caller [] (parent p))
+      (λ o k. h o (then_touched o (read_on s caller p) (ended (λ d. lost d (node_at s d)) code (next (node_at s (parent p))) (way_of s caller p)) k)) in
       ap (reading (read_on s caller p)) then
       ∙ ap (λ (l : List Path). reading ([] ∷ l) (ended (λ d. lost' d (node_at t d)) code (next' (node_at t (parent p))) (way_of s caller p))) way.1
       ∙ ap (λ w. reading (read_on t caller p) (ended (λ d. lost' d (node_at t d)) code (next' (node_at t (parent p))) w)) way.0

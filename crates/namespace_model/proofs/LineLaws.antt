@@ -115,9 +115,25 @@ success_lines t e o (a_part_is_read path range x bytes from to is there same) =
     subst (λ (y : Outcome). AscendFrom 1 y.reply.fields) (sym same)
     (lit≤ tt, (lit≤ tt, (lit≤ tt, (lit≤ tt, (lit≤ tt, (lit≤ tt, property_lines x.props (lease_fields x.lease e.moment) 7 (lit≤ tt) (last_lease_lines x.lease e.moment)))))))
 success_lines t e o (properties_are_shown path status x is there same) =
-    subst (λ (y : Outcome). AscendFrom 1 y.reply.fields) (sym same)
-    (lit≤ tt, (lit≤ tt, (lit≤ tt, (lit≤ tt, (lit≤ tt, (lit≤ tt,
-    user_lines status x (lease_fields x.lease e.moment ++ length_fields x.content) (lease_lines x.lease e.moment (length_fields x.content) (length_lines x.content))))))))
+    subst (λ (y : Outcome). AscendFrom 1 y.reply.fields) (sym same) (
+      lit≤ tt,
+      (
+        lit≤ tt,
+        (
+          lit≤ tt,
+          (
+            lit≤ tt,
+            (
+              lit≤ tt,
+              (
+                lit≤ tt,
+                user_lines status x (lease_fields x.lease e.moment ++ length_fields x.content) (lease_lines x.lease e.moment (length_fields x.content) (length_lines x.content)),
+              ),
+            ),
+          ),
+        ),
+      ),
+    )
 success_lines t e o (access_is_shown path x is there same) =
     subst (λ (y : Outcome). AscendFrom 1 y.reply.fields) (sym same) (lit≤ tt, (lit≤ tt, (lit≤ tt, (lit≤ tt, (lit≤ tt, (lit≤ tt, tt))))))
 success_lines t e o (a_right_is_there path want is same) = subst (λ (y : Outcome). AscendFrom 1 y.reply.fields) (sym same) tt

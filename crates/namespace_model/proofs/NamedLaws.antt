@@ -58,13 +58,13 @@ last_among e m x done (k ∷ j ∷ names) n =
 
 made_among : (e : Entry) (m : Making) (x : Node) (base : Path) → IsBase m.path base → 2 ≤ length m.path → Among m.path (paths_of (new_nodes e m x base (drop (length base) m.path)))
 made_among e m x base is long = elim (parent_name m.path) [
-    | inl none ↦ absurd (long_path m.path long none)
-    | inr name ↦
-        let whole : m.path ≡ base ++ (is.rest ++ name.0 ∷ []) = name.1 ∙ ap (λ q. q ++ name.0 ∷ []) is.parent_is ∙ append_assoc base is.rest (name.0 ∷ []) in
-        let left : drop (length base) m.path ≡ is.rest ++ name.0 ∷ [] = ap (drop (length base)) whole ∙ drop_front base (is.rest ++ name.0 ∷ []) in
-        subst (λ l. Among m.path (paths_of (new_nodes e m x base l))) (sym left)
-        (subst (λ q. Among q (paths_of (new_nodes e m x base (is.rest ++ name.0 ∷ [])))) (sym whole) (last_among e m x base is.rest name.0))
-  ]
+  | inl none ↦ absurd (long_path m.path long none)
+  | inr name ↦
+      let whole : m.path ≡ base ++ (is.rest ++ name.0 ∷ []) = name.1 ∙ ap (λ q. q ++ name.0 ∷ []) is.parent_is ∙ append_assoc base is.rest (name.0 ∷ []) in
+      let left : drop (length base) m.path ≡ is.rest ++ name.0 ∷ [] = ap (drop (length base)) whole ∙ drop_front base (is.rest ++ name.0 ∷ []) in
+      subst (λ l. Among m.path (paths_of (new_nodes e m x base l))) (sym left)
+      (subst (λ q. Among q (paths_of (new_nodes e m x base (is.rest ++ name.0 ∷ [])))) (sym whole) (last_among e m x base is.rest name.0))
+]
 
 turned_here : (e : Entry) (force : Bool) (p q : Path) (x : Node) (turn : Result AclPair Code) (rest : Batch)
     → ((p ≡ q) × IsOk turn) ⊎ (((force ≡ true) ⊎ IsOk turn) × Among p (paths_of rest.changed)) → Among p (paths_of (with_turn e force q x turn rest).changed)

@@ -1,4 +1,8 @@
 -- Whether the caller has permissions on a node (Path - Get Properties with action=checkAccess of the REST reference).
+--
+--   1  the way, and the node           denied (execute), FilesystemNotFound, PathNotFound   found
+--   2  the conditions                  ConditionNotMet, also as 304                         is_unmet_look
+--   3  the bits that are asked about   denied                                               lacks
 use Rattle.std.specs.Prelude.{ℕ, []}
 use Rattle.namespace_model.specs.declared.request.Entry.{Entry}
 use Rattle.namespace_model.specs.Nodes.{Node}

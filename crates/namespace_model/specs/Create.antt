@@ -1,4 +1,13 @@
 -- Make a file or a directory, and the directories that are missing on the way to it (Path - Create of the REST reference).
+--
+--   1  the way; a missing node ends it well         denied (execute), FilesystemNotFound, ResourceTypeMismatch   walk_or
+--   2  write and execute on its last directory      denied                                                       lacks
+--   3  where the node is there, the sticky bit      denied (sticky)                                              is_guarded
+--   4  where it is there, If-None-Match isn't `*`   PathAlreadyExists                                            exists_already
+--   5  the conditions, also without a node          ConditionNotMet                                              is_unmet, is_unmet_without
+--   6  where it is there, it is of this kind        ResourceTypeMismatch                                         refuse_if
+--   7  where it is there, nothing is below it       DirectoryNotEmpty                                            refuse_if
+--   8  the new nodes are put, stamped               none; the last directory and they are written                made_below
 use Rattle.std.specs.Prelude.{ℕ, not, ◌&&◌, List, [], ◌∷◌, ◌++◌, length, drop, map, Option, None, unwrap_or}
 use Rattle.acl_text.specs.declared.perm.ModeBits.{ModeBits}
 use Rattle.namespace_model.specs.declared.code.Code.TheVariants.{FilesystemNotFound, ResourceTypeMismatch, DirectoryNotEmpty}

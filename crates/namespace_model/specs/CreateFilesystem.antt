@@ -1,4 +1,8 @@
 -- Make a filesystem (Filesystem - Create of the REST reference).
+--
+--   1  the caller is the superuser   denied (superuser-only, at the root)         is_no_superuser
+--   2  the filesystem isn't there    FilesystemAlreadyExists                      refuse_if
+--   3  the root is made              none; the account and the root are written   filesystem_made
 use Rattle.std.specs.Prelude.{ℕ, List, [], ◌∷◌, is_some, Option, None, unwrap_or}
 use Rattle.acl_text.specs.declared.who.Who.TheVariants.{Owner, OwningGroup, Other}
 use Rattle.acl_text.specs.declared.acl.AclPair.{AclPair}

@@ -1,4 +1,14 @@
 -- Take a file or a directory away (Path - Delete of the REST reference).
+--
+--   1  the way to the parent                            denied (execute), FilesystemNotFound, PathNotFound   walk
+--   2  write and execute on the parent                  denied                                               lacks
+--   3  the node is there                                PathNotFound                                         noted
+--   4  the sticky bit of the parent                     denied (sticky)                                      is_guarded
+--   5  the conditions                                   ConditionNotMet                                      is_unmet
+--   6  the lease                                        LeaseIdMissing and the other codes of writes         lease_refuses
+--   7  nothing is below it, or it is recursive          DirectoryNotEmpty                                    refuse_if
+--   8  recursive: all three rights and the sticky bit   denied, at the first place in path order             not_clearable
+--   9  the subtree goes                                 none; the parent and the subtree are written         gone
 use Rattle.std.specs.Prelude.{Bool, true, false, not, ◌&&◌, List, [], ◌∷◌, Option, None, if◌then◌else◌}
 use Rattle.namespace_model.specs.declared.caller.Caller.{Caller}
 use Rattle.namespace_model.specs.declared.code.Code.TheVariants.{PathNotFound, DirectoryNotEmpty}

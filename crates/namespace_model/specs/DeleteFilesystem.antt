@@ -1,4 +1,8 @@
 -- Take a filesystem away with all that is in it (Filesystem - Delete of the REST reference).
+--
+--   1  the caller is the superuser   denied (superuser-only, at the root)          is_no_superuser
+--   2  the filesystem is there       FilesystemNotFound                            noted
+--   3  all of it goes                none; the account and all of it are written   filesystem_gone
 use Rattle.std.specs.Prelude.{List, [], ◌∷◌, None}
 use Rattle.namespace_model.specs.declared.code.Code.TheVariants.{FilesystemNotFound}
 use Rattle.namespace_model.specs.declared.request.Entry.{Entry}

@@ -1,4 +1,12 @@
 -- Take what is staged below a position into a file (Path - Update with action=flush of the REST reference).
+--
+--   1  the way, and the node            denied (execute), FilesystemNotFound, PathNotFound   found
+--   2  read and write on it             denied                                               lacks
+--   3  it is a file                     ResourceTypeMismatch                                 refuse_if
+--   4  the conditions                   ConditionNotMet                                      is_unmet
+--   5  the lease                        LeaseIdMissing and the other codes of writes         lease_refuses
+--   6  what is staged lies end to end   InvalidFlushPosition                                 refused_flush
+--   7  the node is put, stamped         none                                                 flushed_to
 use Rattle.std.specs.Prelude.{ℕ, Bool}
 use Rattle.file_data.specs.FileRecord.{flush_answer, flushed}
 use Rattle.lease_state.specs.LeaseTable.{lease_after_write}

@@ -1,4 +1,7 @@
 -- The owner, the group and the access control lists of a node (Path - Get Properties with action=getAccessControl of the REST reference).
+--
+--   1  the way, and the node   denied (execute), FilesystemNotFound, PathNotFound   found
+--   2  the conditions          ConditionNotMet, also as 304                         is_unmet_look
 use Rattle.std.specs.Prelude.{[], ◌∷◌, ◌++◌}
 use Rattle.acl_text.specs.AclWriting.{acl_text}
 use Rattle.namespace_model.specs.declared.field.Field.TheVariants.{Acl}

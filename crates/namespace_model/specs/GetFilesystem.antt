@@ -1,4 +1,7 @@
 -- The properties of a filesystem (Filesystem - Get Properties of the REST reference).
+--
+--   1  the caller is the superuser   denied (superuser-only, at the root)   is_no_superuser
+--   2  the filesystem is there       FilesystemNotFound                     noted
 use Rattle.std.specs.Prelude.{[], ◌∷◌, ◌++◌}
 use Rattle.namespace_model.specs.declared.code.Code.TheVariants.{FilesystemNotFound}
 use Rattle.namespace_model.specs.declared.field.Field.TheVariants.{NamespaceEnabled}

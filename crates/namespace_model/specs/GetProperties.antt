@@ -1,4 +1,7 @@
 -- The properties of a node (Path - Get Properties of the REST reference).
+--
+--   1  the way, and the node   denied (execute), FilesystemNotFound, PathNotFound   found
+--   2  the conditions          ConditionNotMet, also as 304                         is_unmet_look
 use Rattle.std.specs.Prelude.{Bool, true, false, List, [], ◌∷◌, ◌++◌, length}
 use Rattle.acl_text.specs.AclWriting.{permissions_text}
 use Rattle.namespace_model.specs.declared.field.Field.{Field}

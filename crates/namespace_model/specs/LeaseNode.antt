@@ -1,4 +1,10 @@
 -- An action on the lease of a node (Path - Lease of the REST reference).
+--
+--   1  the way, and the node                             denied (execute), FilesystemNotFound, PathNotFound         found
+--   2  write on it                                       denied                                                     lacks
+--   3  the conditions                                    ConditionNotMet                                            is_unmet
+--   4  the lease table                                   LeaseAlreadyPresent and the other codes of lease actions   lease_act
+--   5  the node is put, with its own number and moment   none                                                       lease_put
 use Rattle.std.specs.Prelude.{ℕ, ◌+◌, ◌-◌, ◌/◌, List, [], ◌∷◌, ◌++◌, Result, Ok, Err}
 use Rattle.lease_state.specs.declared.lease.Lease.{Lease}
 use Rattle.lease_state.specs.declared.lease.Lease.TheVariants as lease

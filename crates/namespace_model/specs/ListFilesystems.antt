@@ -1,4 +1,7 @@
 -- A page of the filesystems of the account (Filesystem - List of the REST reference).
+--
+--   1  the caller is the superuser   denied (superuser-only, at the account)   is_no_superuser
+--   2  the page of the roots         none; the account and the page are read   page_of
 use Rattle.std.specs.Prelude.{ℕ, Bool, false, ◌&&◌, take, length, bytes_eq, List, [], ◌∷◌, codes, Option, None}
 use Rattle.serde_json.specs.Data.{Data, object, member, no_members, string, array, Items, item, no_items}
 use Rattle.serde_json.specs.Written.{compact_text}

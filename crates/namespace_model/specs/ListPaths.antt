@@ -1,4 +1,11 @@
 -- A page of what is in a directory, or of all that is below it (Path - List of the REST reference).
+--
+--   1  the way to the directory                 denied (execute), FilesystemNotFound, PathNotFound   found
+--   2  the directory is there                   FilesystemNotFound, PathNotFound                     found
+--   3  it is a directory                        ResourceTypeMismatch                                 refuse_if
+--   4  read and execute on it                   denied                                               lacks
+--   5  the page, which is read                  none                                                 list_page
+--   6  with recursive, read and execute below   denied, at the first directory in path order         is_closed
 use Rattle.std.specs.Prelude.{ℕ, Bool, true, false, not, List, [], ◌∷◌, ◌++◌, length, slice_get, codes, decimal, Option, None, if◌then◌else◌}
 use Rattle.serde_json.specs.Data.{Data, Members, object, member, no_members, string, array, Items, item, no_items}
 use Rattle.serde_json.specs.Written.{compact_text}

@@ -1,4 +1,10 @@
 -- The bytes of a file, or a range of them (Path - Read of the REST reference).
+--
+--   1  the way, and the node          denied (execute), FilesystemNotFound, PathNotFound   found
+--   2  read on it                     denied                                               lacks
+--   3  it is a file                   ResourceTypeMismatch                                 refuse_if
+--   4  the conditions                 ConditionNotMet, also as 304                         is_unmet_look
+--   5  the range begins in the file   InvalidRange                                         refuse_if
 use Rattle.std.specs.Prelude.{ℕ, ◌-◌, ◌+◌, min, nat_le, List, ◌∷◌, ◌++◌, length, slice_range, Option, Some, None}
 use Rattle.head_text.specs.declared.range.Range.{Range}
 use Rattle.namespace_model.specs.declared.code.Code.TheVariants.{ResourceTypeMismatch, InvalidRange}

@@ -1,4 +1,19 @@
 -- Move a file or a directory with all that is below it (Path - Create with x-ms-rename-source of the REST reference).
+--
+--   1  the way to the source                        denied (execute), FilesystemNotFound, SourcePathNotFound                    walk
+--   2  write and execute on its parent              denied                                                                      lacks
+--   3  the source is there                          SourcePathNotFound                                                          noted
+--   4  the sticky bit of its parent                 denied (sticky)                                                             is_guarded
+--   5  the way to the destination                   denied (execute), FilesystemNotFound, RenameDestinationParentPathNotFound   walk
+--   6  write and execute on its parent              denied                                                                      lacks
+--   7  where it is there, the sticky bit            denied (sticky)                                                             is_guarded
+--   8  where it is there, If-None-Match isn't `*`   PathAlreadyExists                                                           exists_already
+--   9  the conditions on it, also without a node    ConditionNotMet                                                             is_unmet, is_unmet_without
+--  10  the lease of the source                      LeaseIdMissing and the other codes of writes                                lease_refuses
+--  11  where it is there, it is of the same kind    ResourceTypeMismatch                                                        refuse_if
+--  12  where it is there, nothing is below it       DirectoryNotEmpty                                                           refuse_if
+--  13  no path comes out too long                   RenameTooLong; the subtree is read where one may                            fitted
+--  14  the source is put, stamped, and moves        none                                                                        shifted
 use Rattle.std.specs.Prelude.{ℕ, Bool, not, ◌&&◌, ◌||◌, nat_lt, List, [], ◌∷◌, length, Option, Some, unwrap_or, if◌then◌else◌}
 use Rattle.std.specs.List.{list_any, join_with_byte}
 use Rattle.namespace_model.specs.declared.code.Code.TheVariants.{SourcePathNotFound, RenameDestinationParentPathNotFound, ResourceTypeMismatch, DirectoryNotEmpty, RenameTooLong}

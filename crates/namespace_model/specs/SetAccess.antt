@@ -1,5 +1,14 @@
 -- Set the owner, the group, and the permissions or the access control lists of a node (Path - Update with action=setAccessControl of the
 -- REST reference).
+--
+--   1  the way, and the node                      denied (execute), FilesystemNotFound, PathNotFound   found
+--   2  the caller is the owner or the superuser   denied (acl-owner)                                   may_not_set_access
+--   3  the owner that is asked for                denied (user-owner)                                  may_not_set_owner
+--   4  the group that is asked for                denied (group-owner)                                 may_not_set_group
+--   5  the conditions                             ConditionNotMet                                      is_unmet
+--   6  the lease                                  LeaseIdMissing and the other codes of writes         lease_refuses
+--   7  no default entries for a file              InvalidAcl                                           refuse_if
+--   8  the node is put, stamped                   none                                                 access_put
 use Rattle.std.specs.Prelude.{ℕ, Bool, true, false, not, ◌&&◌, List, Option, Some, None, Result, Ok, Err, unwrap_or}
 use Rattle.acl_text.specs.declared.who.Who.{Who}
 use Rattle.acl_text.specs.declared.acl.AclPair.{AclPair}

@@ -1,5 +1,9 @@
 -- Change the access control lists of a node and of all that is below it, so many nodes at a time (Path - Update with
 -- action=setAccessControlRecursive of the REST reference).
+--
+--   1  the way, and the node               denied (execute), FilesystemNotFound, PathNotFound   found
+--   2  the nodes of the page in turn       none: failures are listed in the reply               batch_of
+--   3  the changed ones are put, stamped   none                                                 batched
 use Rattle.std.specs.Prelude.{ℕ, Bool, true, false, not, ◌==◌, List, [], ◌∷◌, length, map, filter, slice_get, count_by, codes, Option, Some, None, Result, Ok, Err, if◌then◌else◌}
 use Rattle.acl_text.specs.declared.who.Who.{Who}
 use Rattle.acl_text.specs.declared.acl.AclPair.{AclPair}

@@ -1,4 +1,8 @@
 -- Replace the properties of a filesystem (Filesystem - Set Properties of the REST reference).
+--
+--   1  the caller is the superuser   denied (superuser-only, at the root)   is_no_superuser
+--   2  the filesystem is there       FilesystemNotFound                     noted
+--   3  the root is put, stamped      none                                   filesystem_set
 use Rattle.std.specs.Prelude.{ℕ, List, [], ◌∷◌}
 use Rattle.namespace_model.specs.declared.code.Code.TheVariants.{FilesystemNotFound}
 use Rattle.namespace_model.specs.declared.request.Entry.{Entry}

@@ -1,4 +1,10 @@
 -- Replace the properties of a node (Path - Update with action=setProperties of the REST reference).
+--
+--   1  the way, and the node      denied (execute), FilesystemNotFound, PathNotFound   found
+--   2  write on it                denied                                               lacks
+--   3  the conditions             ConditionNotMet                                      is_unmet
+--   4  the lease                  LeaseIdMissing and the other codes of writes         lease_refuses
+--   5  the node is put, stamped   none                                                 properties_set
 use Rattle.std.specs.Prelude.{ℕ, List}
 use Rattle.lease_state.specs.LeaseTable.{lease_after_write}
 use Rattle.namespace_model.specs.declared.request.Entry.{Entry}

@@ -3,7 +3,7 @@ use Rattle.std.specs.Prelude.{◌≡◌, ℕ, true, false, List, [], ◌∷◌, 
 use Rattle.acl_text.specs.Ids.{superuser}
 use Rattle.acl_text.specs.declared.who.Who.{Who}
 use Rattle.acl_text.specs.declared.who.Who.TheVariants as who
-use Rattle.head_text.specs.declared.conditions.Conditions.{Conditions}
+use Rattle.head_text.specs.Conditions.{no_conditions}
 use Rattle.lease_state.specs.declared.lease.AppendLease.TheVariants as append
 use Rattle.lease_state.specs.declared.lease.Lease.TheVariants as lease
 use Rattle.namespace_model.specs.declared.code.Code.TheVariants as code
@@ -17,9 +17,6 @@ use Rattle.namespace_model.specs.Replies.{refusal, denial, success, stamp_fields
 use Rattle.namespace_model.specs.declared.op.Kind.TheVariants.{Directory}
 use Rattle.namespace_model.specs.Effects.{Put}
 use Rattle.namespace_model.specs.Step.{outcome}
-
-abbrev pub no_conditions : Conditions
-no_conditions = record { matches = None; none = None; modified = None; unmodified = None }
 
 -- an entry at a moment of a caller without groups, with an empty body
 abbrev pub asked_at : ℕ → List ℕ → Op → Entry

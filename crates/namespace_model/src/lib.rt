@@ -25,8 +25,8 @@ pub use field::{Field, FieldList, Media};
 pub use laws::{
     denials_are_in_place, denials_name_their_rule, lines_are_in_order, new_nodes_are_few,
     pages_cover_their_course, refusals_change_nothing, renames_move_a_subtree,
-    replies_tell_what_is, stamps_are_where_the_operation_stamps, steps_are_closed,
-    steps_are_local, steps_keep_trees, successes_put_what_is_named, worked_steps,
+    replies_tell_what_is, stamps_are_where_the_operation_stamps, steps_are_closed, steps_are_local,
+    steps_keep_trees, successes_put_what_is_named, worked_steps,
 };
 pub use op::{BatchChange, Kind, Op};
 pub use reply::Reply;

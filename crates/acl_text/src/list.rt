@@ -1,32 +1,60 @@
-ghost use Rattle.std.specs.Prelude.{◌≡◌, IfOk, take};
+ghost use Rattle.std.specs.Prelude.{◌≡◌, IfOk, filter};
+ghost use Rattle.acl_text.specs.Scopes.{in_scope};
+ghost use Rattle.acl_text.specs.Held.{AreWhose, AreWritable};
+ghost use Rattle.acl_text.specs.AclChanges.{names, names_item};
 
 use crate::perm::Perm;
+use crate::scope::Scope;
 use crate::who::Who;
 use std::alloc::{AllocError, Global};
 use std::marker::Model;
 
-/// A list of entries as a text gives them, in its order. A contract sees the list of whether an entry is of the default scope
-/// (true) or of the access scope (false), whom it is for, and the permissions.
+/// How many items a text of entries, or of items to remove, has at most.
+pub const ITEMS_MAX: usize = 64;
+
+/// A list of entries as a text gives them, in its order. A contract sees the list of the scope of each entry, whom it is for,
+/// and the permissions.
 #[derive(Debug, Drop)]
 pub struct AclList {
-    pub(crate) items: Vec<(bool, Who, Perm)>,
+    pub(crate) items: Vec<(Scope, Who, Perm)>,
 }
 
 impl Model for AclList {
-    ghost use Rattle.std.specs.Prelude.{List, Bool, ℕ};
+    ghost use Rattle.std.specs.Prelude.{List, ℕ};
+    ghost use Rattle.acl_text.specs.declared.scope.Scope.{Scope};
     ghost use Rattle.acl_text.specs.declared.who.Who.{Who};
+    ghost use Rattle.acl_text.specs.Held.{AreWritable};
 
-    ghost Value = { List (Bool × Who × ℕ) };
+    ghost Value = { List (Scope × Who × ℕ) };
 
     ghost view = { λ l. l.items.items };
+
+    ghost invariant = { λ l. AreWritable l.items.items };
 }
 
 impl AclList {
     /// The entries.
-    pub fn entries(&self) -> &[(bool, Who, Perm)]
-        ensures { result.now ≡ self.now }
+    pub fn entries(&self) -> &[(Scope, Who, Perm)]
+        ensures entries { result.now ≡ self.now }
+        ensures writable { AreWritable self.now }
     {
         self.items.as_slice()
+    }
+
+    /// Whether an entry of the list is of a scope.
+    pub fn names_scope(&self, scope: Scope) -> bool
+        ensures { result ≡ names scope self.now }
+    {
+        self.items.as_slice().iter().any(|item| scope.has(item.0))
+    }
+
+    /// The entries of one scope, in their order. The one error is want of memory.
+    pub fn of_scope(&self, alloc: Global, scope: Scope) -> Result<AclList, AllocError>
+        ensures { IfOk result (λ list. list ≡ filter (λ e. in_scope scope e.0) self.now) }
+    {
+        Ok(AclList {
+            items: entries_of_scope(alloc, self.items.as_slice(), scope)?,
+        })
     }
 
     /// Another list that is equal. The one error is want of memory.
@@ -41,8 +69,8 @@ impl AclList {
 
 fn copied_entries(
     alloc: Global,
-    items: &[(bool, Who, Perm)],
-) -> Result<Vec<(bool, Who, Perm)>, AllocError>
+    items: &[(Scope, Who, Perm)],
+) -> Result<Vec<(Scope, Who, Perm)>, AllocError>
     ensures { IfOk result (λ copied. copied.items ≡ items.now) }
 {
     let mut copied = Vec::new(alloc);
@@ -52,28 +80,65 @@ fn copied_entries(
     Ok(copied)
 }
 
-/// A list of entries to remove as a text gives them, in its order. A contract sees the list of whether an item is of the default
-/// scope (true) or of the access scope (false), and whom it is for.
+fn entries_of_scope(
+    alloc: Global,
+    items: &[(Scope, Who, Perm)],
+    scope: Scope,
+) -> Result<Vec<(Scope, Who, Perm)>, AllocError>
+    ensures { IfOk result (λ copied. copied.items ≡ filter (λ e. in_scope scope e.0) items.now) }
+{
+    let mut copied = Vec::new(alloc);
+    for (of, who, perm) in items {
+        if scope.has(*of) {
+            copied.push((*of, who.copy(alloc)?, *perm))?;
+        }
+    }
+    Ok(copied)
+}
+
+/// A list of entries to remove as a text gives them, in its order. A contract sees the list of the scope of each
+/// item, and whom it is for.
 #[derive(Debug, Drop)]
 pub struct RemoveList {
-    pub(crate) items: Vec<(bool, Who)>,
+    pub(crate) items: Vec<(Scope, Who)>,
 }
 
 impl Model for RemoveList {
-    ghost use Rattle.std.specs.Prelude.{List, Bool};
+    ghost use Rattle.std.specs.Prelude.{List};
+    ghost use Rattle.acl_text.specs.declared.scope.Scope.{Scope};
     ghost use Rattle.acl_text.specs.declared.who.Who.{Who};
+    ghost use Rattle.acl_text.specs.Held.{AreWhose};
 
-    ghost Value = { List (Bool × Who) };
+    ghost Value = { List (Scope × Who) };
 
     ghost view = { λ l. l.items.items };
+
+    ghost invariant = { λ l. AreWhose l.items.items };
 }
 
 impl RemoveList {
     /// The items.
-    pub fn entries(&self) -> &[(bool, Who)]
-        ensures { result.now ≡ self.now }
+    pub fn entries(&self) -> &[(Scope, Who)]
+        ensures entries { result.now ≡ self.now }
+        ensures ids { AreWhose self.now }
     {
         self.items.as_slice()
+    }
+
+    /// Whether an item of the list is of a scope.
+    pub fn names_scope(&self, scope: Scope) -> bool
+        ensures { result ≡ names_item scope self.now }
+    {
+        self.items.as_slice().iter().any(|item| scope.has(item.0))
+    }
+
+    /// The items of one scope, in their order. The one error is want of memory.
+    pub fn of_scope(&self, alloc: Global, scope: Scope) -> Result<RemoveList, AllocError>
+        ensures { IfOk result (λ list. list ≡ filter (λ e. in_scope scope e.0) self.now) }
+    {
+        Ok(RemoveList {
+            items: items_of_scope(alloc, self.items.as_slice(), scope)?,
+        })
     }
 
     /// Another list that is equal. The one error is want of memory.
@@ -86,12 +151,28 @@ impl RemoveList {
     }
 }
 
-fn copied_items(alloc: Global, items: &[(bool, Who)]) -> Result<Vec<(bool, Who)>, AllocError>
+fn copied_items(alloc: Global, items: &[(Scope, Who)]) -> Result<Vec<(Scope, Who)>, AllocError>
     ensures { IfOk result (λ copied. copied.items ≡ items.now) }
 {
     let mut copied = Vec::new(alloc);
     for (scope, who) in items {
         copied.push((*scope, who.copy(alloc)?))?;
+    }
+    Ok(copied)
+}
+
+fn items_of_scope(
+    alloc: Global,
+    items: &[(Scope, Who)],
+    scope: Scope,
+) -> Result<Vec<(Scope, Who)>, AllocError>
+    ensures { IfOk result (λ copied. copied.items ≡ filter (λ e. in_scope scope e.0) items.now) }
+{
+    let mut copied = Vec::new(alloc);
+    for (of, who) in items {
+        if scope.has(*of) {
+            copied.push((*of, who.copy(alloc)?))?;
+        }
     }
     Ok(copied)
 }

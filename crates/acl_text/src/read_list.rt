@@ -1,18 +1,18 @@
-ghost use Rattle.std.specs.Prelude.{◌≡◌, [], ℕ, Bool, List, Ok, Err, IfOk, map};
+ghost use Rattle.std.specs.Prelude.{◌≡◌, [], ℕ, List, Ok, Err, IfOk, map};
 ghost use Rattle.std.specs.List.{list_any};
 ghost use Rattle.acl_text.specs.Stops.{Answers};
 ghost use Rattle.acl_text.specs.AclTexts.{items_of, values_of, repeat_from, entry_of, item_of, same_entry, same_item, acl_list_of, remove_list_of, IsAclText, IsRemoveText, IsListFault, SpellsEntry, SpellsItem};
+ghost use Rattle.acl_text.specs.declared.scope.Scope.{Scope};
 ghost use Rattle.acl_text.specs.declared.who.Who.{Who};
 ghost use Rattle.acl_text.specs.declared.acl.AclFault.{AclFault};
 
 use crate::acl::{AclFault, AclStop};
-use crate::entries::is_in_scope;
-use crate::list::{AclList, RemoveList};
+use crate::list::{AclList, ITEMS_MAX, RemoveList};
 use crate::perm::Perm;
 use crate::read_entry::{entry_of, item_of};
-use crate::who::{Who, compare};
+use crate::scope::Scope;
+use crate::who::Who;
 use std::alloc::{AllocError, Global};
-use std::cmp::Ordering;
 
 // The items that commas part.
 fn items_of(alloc: Global, text: &[u8]) -> Result<Vec<&[u8]>, AllocError>
@@ -47,32 +47,32 @@ fn removals_of(alloc: Global, items: &[&[u8]]) -> Result<RemoveList, AclStop>
     Ok(RemoveList { items: removals })
 }
 
-fn is_same_entry(a: &(bool, Who, Perm), b: &(bool, Who, Perm)) -> bool
+fn is_same_entry(a: &(Scope, Who, Perm), b: &(Scope, Who, Perm)) -> bool
     ensures { result ≡ same_entry a.now b.now }
 {
-    is_in_scope(a.0, b.0) && compare(&a.1, &b.1) == Ordering::Equal
+    a.0.has(b.0) && a.1 == b.1
 }
 
-fn is_same_item(a: &(bool, Who), b: &(bool, Who)) -> bool
+fn is_same_item(a: &(Scope, Who), b: &(Scope, Who)) -> bool
     ensures { result ≡ same_item a.now b.now }
 {
-    is_in_scope(a.0, b.0) && compare(&a.1, &b.1) == Ordering::Equal
+    a.0.has(b.0) && a.1 == b.1
 }
 
-fn has_entry(entries: &[(bool, Who, Perm)], entry: &(bool, Who, Perm)) -> bool
+fn has_entry(entries: &[(Scope, Who, Perm)], entry: &(Scope, Who, Perm)) -> bool
     ensures { result ≡ list_any (same_entry entry.now) entries.now }
 {
     entries.iter().any(|other| is_same_entry(entry, other))
 }
 
-fn has_item(items: &[(bool, Who)], item: &(bool, Who)) -> bool
+fn has_item(items: &[(Scope, Who)], item: &(Scope, Who)) -> bool
     ensures { result ≡ list_any (same_item item.now) items.now }
 {
     items.iter().any(|other| is_same_item(item, other))
 }
 
 // The first entry that is the same as one before it.
-fn repeated_entry(entries: &[(bool, Who, Perm)]) -> Option<usize>
+fn repeated_entry(entries: &[(Scope, Who, Perm)]) -> Option<usize>
     ensures { result ≡ repeat_from same_entry [] entries.now }
 {
     for at in 0..entries.len() {
@@ -84,7 +84,7 @@ fn repeated_entry(entries: &[(bool, Who, Perm)]) -> Option<usize>
     None
 }
 
-fn repeated_item(items: &[(bool, Who)]) -> Option<usize>
+fn repeated_item(items: &[(Scope, Who)]) -> Option<usize>
     ensures { result ≡ repeat_from same_item [] items.now }
 {
     for at in 0..items.len() {
@@ -105,7 +105,7 @@ fn acl_of(alloc: Global, text: &[u8]) -> Result<AclList, AclStop>
         });
     }
     let items = items_of(alloc, text)?;
-    if 64 < items.len() {
+    if ITEMS_MAX < items.len() {
         return Err(AclStop::Fault(AclFault::TooMany));
     }
     let list = entries_of(alloc, items.as_slice())?;
@@ -120,11 +120,12 @@ fn acl_of(alloc: Global, text: &[u8]) -> Result<AclList, AclStop>
 /// empty text has no entries.
 ///
 /// The faults, in this order: `TooMany` for over 64 items, `BadEntry` for the first item that is no entry, and `Twice` for the
-/// first one whose scope and who stood before.
+/// first one whose scope and who stood before; and `NoMemory`.
 pub fn read_acl(alloc: Global, text: &[u8]) -> Result<AclList, AclStop>
     ensures found { IfOk result (IsAclText text.now) }
-    ensures only { (es : List (Bool × Who × ℕ)) → IsAclText text.now es → Answers result (Ok es) }
+    ensures only { (es : List (Scope × Who × ℕ)) → IsAclText text.now es → Answers result (Ok es) }
     ensures fault { (f : AclFault) → result ≡ Err (AclStop.Fault f) → IsListFault SpellsEntry same_entry text.now f }
+    ensures refused { (f : AclFault) → IsListFault SpellsEntry same_entry text.now f → Answers result (Err f) }
     ensures exact { Answers result (acl_list_of text.now) }
 {
     acl_of(alloc, text)
@@ -139,7 +140,7 @@ fn remove_list_of(alloc: Global, text: &[u8]) -> Result<RemoveList, AclStop>
         });
     }
     let items = items_of(alloc, text)?;
-    if 64 < items.len() {
+    if ITEMS_MAX < items.len() {
         return Err(AclStop::Fault(AclFault::TooMany));
     }
     let list = removals_of(alloc, items.as_slice())?;
@@ -153,11 +154,12 @@ fn remove_list_of(alloc: Global, text: &[u8]) -> Result<RemoveList, AclStop>
 /// empty text has no items.
 ///
 /// The faults, in this order: `TooMany` for over 64 items, `BadEntry` for the first item that is not of this form, and `Twice` for
-/// the first one whose scope and who stood before.
+/// the first one whose scope and who stood before; and `NoMemory`.
 pub fn read_remove_list(alloc: Global, text: &[u8]) -> Result<RemoveList, AclStop>
     ensures found { IfOk result (IsRemoveText text.now) }
-    ensures only { (es : List (Bool × Who)) → IsRemoveText text.now es → Answers result (Ok es) }
+    ensures only { (es : List (Scope × Who)) → IsRemoveText text.now es → Answers result (Ok es) }
     ensures fault { (f : AclFault) → result ≡ Err (AclStop.Fault f) → IsListFault SpellsItem same_item text.now f }
+    ensures refused { (f : AclFault) → IsListFault SpellsItem same_item text.now f → Answers result (Err f) }
     ensures exact { Answers result (remove_list_of text.now) }
 {
     remove_list_of(alloc, text)

@@ -1,6 +1,8 @@
-use Rattle.std.proofs.Common.{[], ◌∷◌, ◌++◌, sym, ap, ◌∙◌}
+use Rattle.std.proofs.Common.{[], ◌∷◌, ◌++◌, take, map, sym, ap, subst, ◌∙◌}
 use Rattle.acl_text.specs.AclTexts.{item_of}
 use Rattle.acl_text.proofs.ListLemmas.{read_more, read_bad, all_read, one_bad}
+use Rattle.acl_text.specs.Held.{AreWhose}
+use Rattle.acl_text.proofs.TextLemmas.{read_whose}
 use Rattle.acl_text.proofs.read_list.removals_of.Goals as goal
 
 pub returns-in-None : goal.returns-in-None
@@ -15,3 +17,6 @@ loop-at-preserved c =
 
 pub returns : goal.returns
 returns c = all_read item_of c.args.items.now c.loop-at.at c.loop-at.removals.items c.loop-at-test.false c.loop-at.invariant.0 c.loop-at.invariant.1
+
+pub invariant_of-result : goal.invariant_of-result
+invariant_of-result c = subst AreWhose (sym c.loop-at.invariant.1) (read_whose (take c.loop-at.at (map (λ t. t.now) c.args.items.now)))

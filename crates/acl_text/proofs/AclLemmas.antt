@@ -68,9 +68,9 @@ has-step : (b : Bool) (m : AclMap) (k : Who) (v : ℕ) (q : Who) → IsSome (fin
 has-step true m k v q h = has-insert m k v q h
 has-step false m k v q h = h
 
-pub has-given_in : (default : Scope) (list : List (Scope × Who × ℕ)) (m : AclMap) (q : Who) → IsSome (fin.get m q) → IsSome (fin.get (given_in default list m) q)
-has-given_in default [] m q h = h
-has-given_in default (e ∷ es) m q h = has-given_in default es _ q (has-step (in_scope default e.0) m e.1 e.2 q h)
+pub has-given_in : (scope : Scope) (list : List (Scope × Who × ℕ)) (m : AclMap) (q : Who) → IsSome (fin.get m q) → IsSome (fin.get (given_in scope list m) q)
+has-given_in scope [] m q h = h
+has-given_in scope (e ∷ es) m q h = has-given_in scope es _ q (has-step (in_scope scope e.0) m e.1 e.2 q h)
 
 pub is_mask-Mask : (w : Who) → is_mask w ≡ true → w ≡ Mask
 is_mask-Mask Owner e = absurd (false≢true e)
@@ -86,13 +86,13 @@ mask_put true false m k v is e = absurd (false≢true e)
 mask_put false b m k v is e = absurd (false≢true e)
 
 -- a mask that a list gives is there
-pub given_mask : (default : Scope) (list : List (Scope × Who × ℕ)) (m : AclMap) → gives_mask default list ≡ true → IsSome (fin.get (given_in default list m) Mask)
-given_mask default [] m = λ e. absurd (false≢true e)
-given_mask default (e ∷ es) m =
-    elim (in_scope default e.0 && is_mask e.1) as (λ b. (in_scope default e.0 && is_mask e.1) ≡ b → (b || gives_mask default es) ≡ true
-    → IsSome (fin.get (given_in default es (step default m e)) Mask)) [
-      | true ↦ λ is _. has-given_in default es _ Mask (mask_put (in_scope default e.0) (is_mask e.1) m e.1 e.2 (is_mask-Mask e.1) is)
-      | false ↦ λ is more. given_mask default es _ more
+pub given_mask : (scope : Scope) (list : List (Scope × Who × ℕ)) (m : AclMap) → gives_mask scope list ≡ true → IsSome (fin.get (given_in scope list m) Mask)
+given_mask scope [] m = λ e. absurd (false≢true e)
+given_mask scope (e ∷ es) m =
+    elim (in_scope scope e.0 && is_mask e.1) as (λ b. (in_scope scope e.0 && is_mask e.1) ≡ b → (b || gives_mask scope es) ≡ true
+    → IsSome (fin.get (given_in scope es (step scope m e)) Mask)) [
+      | true ↦ λ is _. has-given_in scope es _ Mask (mask_put (in_scope scope e.0) (is_mask e.1) m e.1 e.2 (is_mask-Mask e.1) is)
+      | false ↦ λ is more. given_mask scope es _ more
     ] refl
 
 -- ---- named entries
@@ -174,11 +174,11 @@ HasBase-retain_keys m p a b c h = record {
   other = has-retain_keys m p Other c h.other;
 }
 
-pub HasBase-given_in : (default : Scope) (list : List (Scope × Who × ℕ)) (m : AclMap) → HasBase m → HasBase (given_in default list m)
-HasBase-given_in default list m h = record {
-  owner = has-given_in default list m Owner h.owner;
-  owning_group = has-given_in default list m OwningGroup h.owning_group;
-  other = has-given_in default list m Other h.other;
+pub HasBase-given_in : (scope : Scope) (list : List (Scope × Who × ℕ)) (m : AclMap) → HasBase m → HasBase (given_in scope list m)
+HasBase-given_in scope list m h = record {
+  owner = has-given_in scope list m Owner h.owner;
+  owning_group = has-given_in scope list m OwningGroup h.owning_group;
+  other = has-given_in scope list m Other h.other;
 }
 
 with_mask : (m : AclMap) → HasBase m → (has_named m ≡ true → IsSome (fin.get m Mask)) → IsComplete m
@@ -194,10 +194,10 @@ IsComplete-masked false m h mask =
           (λ still. absurd (false≢true (sym named ∙ has_named-retain_keys m (λ who. not (is_mask who)) still)))
     ] refl
 
-pub IsComplete-changed_scope : (default : Scope) (list : List (Scope × Who × ℕ)) (m : AclMap) → IsComplete m → IsComplete (changed_scope default list m)
-IsComplete-changed_scope default list m h =
-    elim (names default list) as (λ b. IsComplete (cond b (masked (gives_mask default list) (given_in default list m)) m)) [
-      | true ↦ IsComplete-masked (gives_mask default list) _ (HasBase-given_in default list m (base_complete m h)) (given_mask default list m)
+pub IsComplete-changed_scope : (scope : Scope) (list : List (Scope × Who × ℕ)) (m : AclMap) → IsComplete m → IsComplete (changed_scope scope list m)
+IsComplete-changed_scope scope list m h =
+    elim (names scope list) as (λ b. IsComplete (cond b (masked (gives_mask scope list) (given_in scope list m)) m)) [
+      | true ↦ IsComplete-masked (gives_mask scope list) _ (HasBase-given_in scope list m (base_complete m h)) (given_mask scope list m)
       | false ↦ h
     ]
 
@@ -232,9 +232,9 @@ pub IsComplete-set : (list : List (Scope × Who × ℕ)) → missing_in (given_i
 IsComplete-set list e =
     IsComplete-masked (gives_mask Access list) _ (HasBase-from_missing (given_in Access list fin.empty) e) (given_mask Access list fin.empty)
 
-pub IsComplete-removed_scope : (default : Scope) (list : List (Scope × Who)) (m : AclMap) → IsComplete m → IsComplete (removed_scope default list m)
-IsComplete-removed_scope default list m h =
-    elim (names_item default list) as (λ b. IsComplete (cond b (masked false (without default list m)) m)) [
+pub IsComplete-removed_scope : (scope : Scope) (list : List (Scope × Who)) (m : AclMap) → IsComplete m → IsComplete (removed_scope scope list m)
+IsComplete-removed_scope scope list m h =
+    elim (names_item scope list) as (λ b. IsComplete (cond b (masked false (without scope list m)) m)) [
       | true ↦ IsComplete-masked false _ (HasBase-retain_keys m _ refl refl refl (base_complete m h)) (λ e. absurd (false≢true e))
       | false ↦ h
     ]

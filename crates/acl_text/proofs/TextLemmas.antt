@@ -483,19 +483,21 @@ remove_text_refused = listed_refused item_of SpellsItem item_is item_complete cl
 pub remove_text_fault : (text : List ℕ) (f : AclFault) → remove_list_of text ≡ Err f → IsListFault SpellsItem same_item text f
 remove_text_fault = listed_fault item_of SpellsItem item_is item_complete clean_item bytes_item same_item
 
--- what items give that are read has ids that are ones, and permissions of three bits
-pub read_writable : (ts : List (List ℕ)) → AreWritable (filter_map entry_of ts)
-read_writable [] = tt
-read_writable (t ∷ ts) =
-    elim (entry_of t) as (λ o. entry_of t ≡ o → AreWritable (cons_option o (filter_map entry_of ts))) [
-      | None ↦ λ _. read_writable ts
-      | Some e ↦ λ is. let h = entry_is t e is in ((h.0, h.1), read_writable ts)
-    ] refl
+-- what is read has ids that are ones, and permissions of three bits
+each_writable : (ts : List (List ℕ)) (es : List (Scope × Who × ℕ)) → EachSpells SpellsEntry ts es → AreWritable es
+each_writable [] [] h = tt
+each_writable [] (e ∷ es) h = absurd h
+each_writable (t ∷ ts) [] h = absurd h
+each_writable (t ∷ ts) (e ∷ es) h = ((h.0.0, h.0.1), each_writable ts es h.1)
 
-pub read_whose : (ts : List (List ℕ)) → AreWhose (filter_map item_of ts)
-read_whose [] = tt
-read_whose (t ∷ ts) =
-    elim (item_of t) as (λ o. item_of t ≡ o → AreWhose (cons_option o (filter_map item_of ts))) [
-      | None ↦ λ _. read_whose ts
-      | Some e ↦ λ is. ((item_is t e is).0, read_whose ts)
-    ] refl
+pub acl_text_writable : (text : List ℕ) (es : List (Scope × Who × ℕ)) → acl_list_of text ≡ Ok es → AreWritable es
+acl_text_writable text es e = let spelled = (acl_text_is text es e).spelled in each_writable spelled.0 es spelled.2
+
+each_whose : (ts : List (List ℕ)) (es : List (Scope × Who)) → EachSpells SpellsItem ts es → AreWhose es
+each_whose [] [] h = tt
+each_whose [] (e ∷ es) h = absurd h
+each_whose (t ∷ ts) [] h = absurd h
+each_whose (t ∷ ts) (e ∷ es) h = (h.0.0, each_whose ts es h.1)
+
+pub remove_text_whose : (text : List ℕ) (es : List (Scope × Who)) → remove_list_of text ≡ Ok es → AreWhose es
+remove_text_whose text es e = let spelled = (remove_text_is text es e).spelled in each_whose spelled.0 es spelled.2

@@ -132,7 +132,10 @@ list_of read same text =
     if length text == 0 then Ok []
     else (if nat_lt 64 (length (items_of text)) then Err TooMany else unrepeated same (values_of read (items_of text)))
 
--- two entries, and two items, for the same one in the same scope
+-- two that are for the same one in the same scope: entries, and items to remove
+abbrev pub same_of : {X : Type 0} → (X → Scope) → (X → Who) → X → X → Bool
+same_of scope_of whom a b = in_scope (scope_of a) (scope_of b) && eq_by_cmp who_cmp (whom a) (whom b)
+
 abbrev pub same_entry : Scope × Who × ℕ → Scope × Who × ℕ → Bool
 same_entry a b = in_scope a.0 b.0 && eq_by_cmp who_cmp a.1 b.1
 

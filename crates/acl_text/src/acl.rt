@@ -9,7 +9,7 @@ ghost use Rattle.acl_text.specs.AclChanges.{group_holder, mode_map, mode_set, pa
 ghost use Rattle.acl_text.specs.declared.who.Who.TheVariants as who;
 ghost use Rattle.acl_text.specs.declared.acl.AclStop.TheVariants.{NoMemory};
 
-use crate::entries::{Entries, found, found_user};
+use crate::entries::{Entries, find, find_user};
 use crate::id::Id;
 use crate::perm::{ModeBits, Perm};
 use crate::who::Who;
@@ -57,7 +57,7 @@ impl Acl {
         ensures value { result ≡ find who_cmp who.now self.now }
         ensures acl { IsAcl self.now }
     {
-        found(self.entries(), who)
+        find(self.entries(), who)
     }
 
     /// What the entry of the owner gives.
@@ -92,7 +92,7 @@ impl Acl {
     pub fn user(&self, id: &Id) -> Option<Perm>
         ensures { result ≡ find who_cmp (who.User id.now) self.now }
     {
-        found_user(self.entries(), id)
+        find_user(self.entries(), id)
     }
 
     /// The mode that the list shows: what the owner may do, what the mask gives where there is one and else the owning group, and what

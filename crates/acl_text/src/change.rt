@@ -10,17 +10,12 @@ ghost use Rattle.acl_text.specs.AclChanges.{names, gives_mask, given_in, changed
 
 use crate::acl::{Acl, AclFault, AclPair, AclStop, ENTRIES_MAX, copied_default};
 use crate::entries::{Entries, lists};
+use crate::item::has_scope;
 use crate::list::{AclList, RemoveList};
 use crate::perm::{ModeBits, Perm};
 use crate::scope::Scope;
 use crate::who::Who;
 use std::alloc::{AllocError, Global};
-
-fn names(items: &[(Scope, Who, Perm)], scope: Scope) -> bool
-    ensures { result ≡ names scope items.now }
-{
-    items.iter().any(|item| scope.has(item.0))
-}
 
 fn gives_mask(items: &[(Scope, Who, Perm)], scope: Scope) -> bool
     ensures { result ≡ gives_mask scope items.now }
@@ -76,7 +71,7 @@ fn with_mask_rule(entries: Entries, is_mask_given: bool) -> Result<Entries, Allo
     Ok(ruled)
 }
 
-fn changed(
+fn changed_scope(
     alloc: Global,
     from: Entries,
     items: &[(Scope, Who, Perm)],
@@ -84,7 +79,7 @@ fn changed(
 ) -> Result<Entries, AllocError>
     ensures { IfOk result (λ entries. entries ≡ changed_scope scope items.now from) }
 {
-    if !names(items, scope) {
+    if !has_scope(items, scope) {
         return Ok(from);
     }
     let entries = with_given(alloc, from, items, scope)?;
@@ -116,11 +111,11 @@ fn changed_default(
 ) -> Result<Option<Entries>, AllocError>
     ensures { IfOk result (λ changed. changed ≡ changed_default items.now default access.now) }
 {
-    if !names(items, Scope::Default) {
+    if !has_scope(items, Scope::Default) {
         return Ok(default);
     }
     let start = default_start(alloc, default, access)?;
-    Ok(Some(changed(alloc, start, items, Scope::Default)?))
+    Ok(Some(changed_scope(alloc, start, items, Scope::Default)?))
 }
 
 fn is_over(entries: &Entries) -> bool
@@ -167,7 +162,7 @@ fn modify_pair(alloc: Global, pair: &AclPair, list: &AclList) -> Result<AclPair,
     ensures { Answers result (acl_modify pair.now list.now) }
 {
     let items = list.entries();
-    let access = changed(alloc, pair.access.copied_map(alloc)?, items, Scope::Access)?;
+    let access = changed_scope(alloc, pair.access.copied_map(alloc)?, items, Scope::Access)?;
     let start = default_map(alloc, &pair.default)?;
     let default = changed_default(alloc, start, &access, items)?;
     pair_of(access, default).map_err(AclStop::Fault)
@@ -230,17 +225,11 @@ pub fn set(alloc: Global, list: &AclList) -> Result<AclPair, AclStop>
     set_pair(alloc, list)
 }
 
-fn names_item(items: &[(Scope, Who)], scope: Scope) -> bool
-    ensures { result ≡ names_item scope items.now }
-{
-    items.iter().any(|item| scope.has(item.0))
-}
-
-fn removed(from: Entries, items: &[(Scope, Who)], scope: Scope) -> Result<Entries, AllocError>
+fn removed_scope(from: Entries, items: &[(Scope, Who)], scope: Scope) -> Result<Entries, AllocError>
     ensures { IfOk result (λ entries. entries ≡ removed_scope scope items.now from) }
 {
     let mut entries = from;
-    if names_item(items, scope) {
+    if has_scope(items, scope) {
         entries.drop_listed(items, scope);
         entries = with_mask_rule(entries, false)?;
     }
@@ -260,7 +249,7 @@ fn removed_default(
         return Ok(None);
     }
     match default {
-        Some(entries) => Ok(Some(removed(entries, items, Scope::Default)?)),
+        Some(entries) => Ok(Some(removed_scope(entries, items, Scope::Default)?)),
         None => Ok(None),
     }
 }
@@ -275,7 +264,7 @@ pub fn remove(alloc: Global, pair: &AclPair, list: &RemoveList) -> Result<AclPai
     ensures only_memory { IfErr result (λ stop. stop ≡ AclStop.NoMemory) }
 {
     let items = list.entries();
-    let access = removed(pair.access.copied_map(alloc)?, items, Scope::Access)?;
+    let access = removed_scope(pair.access.copied_map(alloc)?, items, Scope::Access)?;
     let default = removed_default(default_map(alloc, &pair.default)?, items)?;
     pair_of(access, default).map_err(AclStop::Fault)
 }

@@ -59,7 +59,7 @@ impl Entries {
     pub(crate) fn get(&self, who: &Who) -> Option<Perm>
         ensures { result ≡ fin.get self.now who.now }
     {
-        found(self.items.as_slice(), who)
+        find(self.items.as_slice(), who)
     }
 
     // Sets the permissions of one, who has an entry from then on.
@@ -75,7 +75,7 @@ impl Entries {
         ensures { IfOk result (λ entries. entries ≡ self.now) }
     {
         Ok(Entries {
-            items: copied(alloc, self.items.as_slice())?,
+            items: copy_entries(alloc, self.items.as_slice())?,
         })
     }
 
@@ -107,7 +107,7 @@ impl Entries {
 }
 
 // What the entry of one gives.
-pub(crate) fn found(items: &[(Who, Perm)], who: &Who) -> Option<Perm>
+pub(crate) fn find(items: &[(Who, Perm)], who: &Who) -> Option<Perm>
     ensures { result ≡ find who_cmp who.now items.now }
 {
     for entry in items {
@@ -128,7 +128,7 @@ fn is_user(who: &Who, id: &Id) -> bool
 }
 
 // What the entry of a named user gives.
-pub(crate) fn found_user(items: &[(Who, Perm)], id: &Id) -> Option<Perm>
+pub(crate) fn find_user(items: &[(Who, Perm)], id: &Id) -> Option<Perm>
     ensures { result ≡ find who_cmp (User id.now) items.now }
 {
     for entry in items {
@@ -164,7 +164,7 @@ fn put_in_order(items: &mut Vec<(Who, Perm)>, who: Who, perm: Perm) -> Result<()
     Ok(())
 }
 
-fn copied(alloc: Global, items: &[(Who, Perm)]) -> Result<Vec<(Who, Perm)>, AllocError>
+fn copy_entries(alloc: Global, items: &[(Who, Perm)]) -> Result<Vec<(Who, Perm)>, AllocError>
     ensures { IfOk result (λ copied. copied.items ≡ items.now) }
 {
     let mut copied = Vec::new(alloc);

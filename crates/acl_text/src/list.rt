@@ -3,6 +3,7 @@ ghost use Rattle.acl_text.specs.Scopes.{in_scope};
 ghost use Rattle.acl_text.specs.Held.{AreWhose, AreWritable};
 ghost use Rattle.acl_text.specs.AclChanges.{names, names_item};
 
+use crate::item::{copy_items, has_scope, of_scope};
 use crate::perm::Perm;
 use crate::scope::Scope;
 use crate::who::Who;
@@ -45,7 +46,7 @@ impl AclList {
     pub fn names_scope(&self, scope: Scope) -> bool
         ensures { result ≡ names scope self.now }
     {
-        self.items.as_slice().iter().any(|item| scope.has(item.0))
+        has_scope(self.items.as_slice(), scope)
     }
 
     /// The entries of one scope, in their order. The one error is want of memory.
@@ -53,7 +54,7 @@ impl AclList {
         ensures { IfOk result (λ list. list ≡ filter (λ e. in_scope scope e.0) self.now) }
     {
         Ok(AclList {
-            items: entries_of_scope(alloc, self.items.as_slice(), scope)?,
+            items: of_scope(alloc, self.items.as_slice(), scope)?,
         })
     }
 
@@ -62,38 +63,9 @@ impl AclList {
         ensures { IfOk result (λ list. list ≡ self.now) }
     {
         Ok(AclList {
-            items: copied_entries(alloc, self.items.as_slice())?,
+            items: copy_items(alloc, self.items.as_slice())?,
         })
     }
-}
-
-fn copied_entries(
-    alloc: Global,
-    items: &[(Scope, Who, Perm)],
-) -> Result<Vec<(Scope, Who, Perm)>, AllocError>
-    ensures { IfOk result (λ copied. copied.items ≡ items.now) }
-{
-    let mut copied = Vec::new(alloc);
-    for (scope, who, perm) in items {
-        copied.push((*scope, who.copy(alloc)?, *perm))?;
-    }
-    Ok(copied)
-}
-
-fn entries_of_scope(
-    alloc: Global,
-    items: &[(Scope, Who, Perm)],
-    scope: Scope,
-) -> Result<Vec<(Scope, Who, Perm)>, AllocError>
-    ensures { IfOk result (λ copied. copied.items ≡ filter (λ e. in_scope scope e.0) items.now) }
-{
-    let mut copied = Vec::new(alloc);
-    for (of, who, perm) in items {
-        if scope.has(*of) {
-            copied.push((*of, who.copy(alloc)?, *perm))?;
-        }
-    }
-    Ok(copied)
 }
 
 /// A list of entries to remove as a text gives them, in its order. A contract sees the list of the scope of each
@@ -129,7 +101,7 @@ impl RemoveList {
     pub fn names_scope(&self, scope: Scope) -> bool
         ensures { result ≡ names_item scope self.now }
     {
-        self.items.as_slice().iter().any(|item| scope.has(item.0))
+        has_scope(self.items.as_slice(), scope)
     }
 
     /// The items of one scope, in their order. The one error is want of memory.
@@ -137,7 +109,7 @@ impl RemoveList {
         ensures { IfOk result (λ list. list ≡ filter (λ e. in_scope scope e.0) self.now) }
     {
         Ok(RemoveList {
-            items: items_of_scope(alloc, self.items.as_slice(), scope)?,
+            items: of_scope(alloc, self.items.as_slice(), scope)?,
         })
     }
 
@@ -146,33 +118,7 @@ impl RemoveList {
         ensures { IfOk result (λ list. list ≡ self.now) }
     {
         Ok(RemoveList {
-            items: copied_items(alloc, self.items.as_slice())?,
+            items: copy_items(alloc, self.items.as_slice())?,
         })
     }
-}
-
-fn copied_items(alloc: Global, items: &[(Scope, Who)]) -> Result<Vec<(Scope, Who)>, AllocError>
-    ensures { IfOk result (λ copied. copied.items ≡ items.now) }
-{
-    let mut copied = Vec::new(alloc);
-    for (scope, who) in items {
-        copied.push((*scope, who.copy(alloc)?))?;
-    }
-    Ok(copied)
-}
-
-fn items_of_scope(
-    alloc: Global,
-    items: &[(Scope, Who)],
-    scope: Scope,
-) -> Result<Vec<(Scope, Who)>, AllocError>
-    ensures { IfOk result (λ copied. copied.items ≡ filter (λ e. in_scope scope e.0) items.now) }
-{
-    let mut copied = Vec::new(alloc);
-    for (of, who) in items {
-        if scope.has(*of) {
-            copied.push((*of, who.copy(alloc)?))?;
-        }
-    }
-    Ok(copied)
 }

@@ -6,4 +6,4 @@ use Rattle.acl_text.proofs.list.AclList.of_scope.Goals as goal
 
 pub invariant_of-result : goal.invariant_of-result
 invariant_of-result c =
-    subst AreWritable (sym c.in_ok-entries_of_scope.ensures) (all_filtered _ (λ e. in_scope c.args.scope e.0) c.as_slice.result.now (subst AreWritable (sym c.as_slice.ensures.value) c.self.invariant))
+    subst AreWritable (sym c.in_ok-of_scope.ensures) (all_filtered _ (λ e. in_scope c.args.scope e.0) c.as_slice.result.now (subst AreWritable (sym c.as_slice.ensures.value) c.self.invariant))

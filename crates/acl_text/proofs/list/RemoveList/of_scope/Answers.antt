@@ -6,4 +6,4 @@ use Rattle.acl_text.proofs.list.RemoveList.of_scope.Goals as goal
 
 pub invariant_of-result : goal.invariant_of-result
 invariant_of-result c =
-    subst AreWhose (sym c.in_ok-items_of_scope.ensures) (all_filtered _ (λ e. in_scope c.args.scope e.0) c.as_slice.result.now (subst AreWhose (sym c.as_slice.ensures.value) c.self.invariant))
+    subst AreWhose (sym c.in_ok-of_scope.ensures) (all_filtered _ (λ e. in_scope c.args.scope e.0) c.as_slice.result.now (subst AreWhose (sym c.as_slice.ensures.value) c.self.invariant))

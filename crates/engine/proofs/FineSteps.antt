@@ -20,7 +20,7 @@ use Rattle.namespace_model.specs.declared.op.Op.{Op}
 use Rattle.namespace_model.specs.declared.op.Op.TheVariants as op
 use Rattle.namespace_model.specs.declared.reply.Reply.{Reply}
 use Rattle.namespace_model.specs.declared.request.Entry.{Entry}
-use Rattle.namespace_model.specs.Built.{IsBuilt, IsBuiltOperation}
+use Rattle.op_decode.specs.Built.{IsBuilt, IsBuiltOperation}
 use Rattle.namespace_model.specs.Create.{Making, new_directory, new_nodes, made_below, create, create_over, create_new, create_in, create_under, create_from}
 use Rattle.namespace_model.specs.CreateFilesystem.{create_filesystem, filesystem_made}
 use Rattle.namespace_model.specs.Delete.{not_clearable, gone, cleared, delete_node, delete_in, delete}

@@ -21,8 +21,8 @@ use Rattle.inode_tree.proofs.IndexLemmas.{stands_from_index}
 use Rattle.inode_tree.proofs.LinkLemmas.{key_differs}
 use Rattle.inode_tree.proofs.TurnLemmas.{number_tells}
 use Rattle.engine.specs.Opening.{account_inode, account_part, AreOpening}
-use Rattle.namespace_model.specs.Step.{tree_of}
-use Rattle.namespace_model.proofs.Runs.{tree_of-nil}
+use Rattle.namespace_model.specs.Step.{tree_after}
+use Rattle.namespace_model.proofs.Runs.{tree_after-nil}
 use Rattle.engine.specs.Solos.{SoloView, parts_in, made_from, made_by, HasDates, IsKept}
 
 -- ---- the opening tree
@@ -151,5 +151,5 @@ kept_at_start s none opening unused = record {
   free = λ k h. opening_free (parts_in s) opening k;
 }
   where
-    tree_is : tree_of s.entries ≡ opening_tree
-    tree_is = ap tree_of none ∙ tree_of-nil
+    tree_is : tree_after s.entries ≡ opening_tree
+    tree_is = ap tree_after none ∙ tree_after-nil

@@ -5,11 +5,11 @@ use Rattle.lease_state.specs.declared.lease.TheConstants.{LAST_MOMENT}
 use Rattle.lock_core.specs.declared.object.LockMode.TheVariants as mode
 use Rattle.namespace_model.specs.declared.request.Entry.{Entry}
 use Rattle.namespace_model.specs.declared.request.Request.{Request}
-use Rattle.namespace_model.specs.Built.{IsBuilt}
+use Rattle.op_decode.specs.Built.{IsBuilt}
 use Rattle.namespace_model.specs.Outcomes.{Outcome}
 use Rattle.namespace_model.specs.Sound.{IsSound}
 use Rattle.namespace_model.specs.Stamps.{HasRightStamp, newly_stamped, stamp_kept}
-use Rattle.namespace_model.specs.Step.{outcome, step, new_paths, tree_from, tree_of}
+use Rattle.namespace_model.specs.Step.{outcome, step, new_paths, tree_from, tree_after}
 use Rattle.namespace_model.specs.Trees.{Path, Tree, opening_tree}
 use Rattle.namespace_model.proofs.Runs.{tree_push}
 use Rattle.namespace_model.proofs.StepStamps.{stamps_after}
@@ -72,8 +72,8 @@ made_from_push t n (x ∷ es) e =
     ∙ plus_assoc (length (new_paths t x)) (made_from (step t x n).tree (suc n) es) (length (new_paths (tree_from (step t x n).tree (suc n) es) e))
 
 -- one entry more makes those of its own
-made_push : (es : List Entry) (e : Entry) → made_by (es ++ e ∷ []) ≡ made_by es + length (new_paths (tree_of es) e)
-unfolding made_by tree_of
+made_push : (es : List Entry) (e : Entry) → made_by (es ++ e ∷ []) ≡ made_by es + length (new_paths (tree_after es) e)
+unfolding made_by tree_after
 made_push es e = made_from_push opening_tree 1 es e
 
 -- ---- dates
@@ -138,7 +138,7 @@ module _ (old : SoloView) (kept : IsKept old) (e : Entry) (sound : IsSound e.req
     (shown : Shown) (shows : (stripe : ℕ) → shown stripe ≡ slice_get (parts_in old) stripe) (fresh : Fresh) (pass : fresh.pass ≡ 0) (used : fresh.used ≡ old.used)
     (d : Draft) (draft : IsDraft all_held shown e.request e.moment fresh d) where
   abbrev t : Tree
-  t = tree_of old.entries
+  t = tree_after old.entries
 
   abbrev placed : Placed
   placed = placed_behind old e
@@ -195,7 +195,7 @@ module _ (old : SoloView) (kept : IsKept old) (e : Entry) (sound : IsSound e.req
   -- what is kept behind the entry
   pub kept_after : (new : SoloView) → new.entries ≡ old.entries ++ e ∷ [] → parts_in new ≡ applied_all number d.changes.items (parts_in old) → new.used ≡ old.used + d.drawn → IsKept new
   kept_after new pushed is drawn =
-      let tree_is : tree_of new.entries ≡ (step t e number).tree = ap tree_of pushed ∙ tree_push old.entries e in
+      let tree_is : tree_after new.entries ≡ (step t e number).tree = ap tree_after pushed ∙ tree_push old.entries e in
       record {
         stands = subst (Stands (parts_in new)) (sym tree_is) (subst (λ (ps : Parts). Stands ps (step t e number).tree) (sym is) (of_step.stands number));
         made = drawn ∙ ap (λ n. old.used + n) of_step.drawn ∙ ap (λ n. n + length (new_paths t e)) kept.made ∙ sym (made_push old.entries e) ∙ sym (ap made_by pushed);

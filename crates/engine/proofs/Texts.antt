@@ -2,7 +2,7 @@
 use Rattle.std.proofs.Common.{◌≡◌, ℕ, suc, ◌+◌, List, [], ◌∷◌, ◌++◌, zero, length, slice_get, Some, refl, ap, arith}
 use Rattle.namespace_model.specs.declared.request.Entry.{Entry}
 use Rattle.namespace_model.specs.declared.reply.Reply.{Reply}
-use Rattle.namespace_model.specs.Step.{step, tree_of, replies_of}
+use Rattle.namespace_model.specs.Step.{step, tree_after, replies_of}
 use Rattle.namespace_model.proofs.Runs.{replies_push, length-replies_of}
 use Rattle.reply_text.specs.ReplyText.{reply_text}
 use Rattle.engine.specs.Submits.{texts_from, texts_of, next_text, SpellsTheRun}
@@ -22,7 +22,7 @@ texts_from_push n (s ∷ rs) (x ∷ es) r e same =
 pub texts_push : (es : List Entry) (e : Entry) → texts_of (es ++ e ∷ []) ≡ texts_of es ++ next_text es e ∷ []
 unfolding texts_of
 texts_push es e =
-    let r = (step (tree_of es) e (length es + 1)).reply in
+    let r = (step (tree_after es) e (length es + 1)).reply in
     rw (replies_push es e) (texts_from_push 1 (replies_of es) es r e (length-replies_of es))
 
 length-texts_from : (n : ℕ) (rs : List Reply) (es : List Entry) → length rs ≡ length es → length (texts_from n rs es) ≡ length es

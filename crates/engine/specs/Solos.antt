@@ -6,7 +6,7 @@ use Rattle.commit_journal.specs.Limits.{LimitNumbers}
 use Rattle.lease_state.specs.declared.lease.TheConstants.{LAST_MOMENT}
 use Rattle.namespace_model.specs.declared.request.Entry.{Entry}
 use Rattle.namespace_model.specs.Nodes.{Node}
-use Rattle.namespace_model.specs.Step.{step, tree_of, new_paths}
+use Rattle.namespace_model.specs.Step.{step, tree_after, new_paths}
 use Rattle.namespace_model.specs.Trees.{Path, Tree, at, opening_tree}
 use Rattle.inode_tree.specs.declared.meta.Meta.{Meta}
 use Rattle.inode_tree.specs.declared.placed.Placed.{Placed}
@@ -53,7 +53,7 @@ solo_code entries_code limits_code meta_code =
 
 -- An entry of the sequential engine, with the ids that its new nodes get: the next ones of the row of pass 0, from the top of the path.
 abbrev pub placed_behind : SoloView → Entry → Placed
-placed_behind s e = record { entry = e; pass = 0; ids = next_ids 0 s.used (length (new_paths (tree_of s.entries) e)) }
+placed_behind s e = record { entry = e; pass = 0; ids = next_ids 0 s.used (length (new_paths (tree_after s.entries) e)) }
 
 -- how many nodes entries make, with numbers from this one on
 unfoldable pub made_from : Tree → ℕ → List Entry → ℕ
@@ -71,8 +71,8 @@ HasDates t = (p : Path) (x : Node) → at t p ≡ Some x → x.moment ≤ LAST_M
 -- The parts stand for the tree of the run of the journal, each of whose nodes has a date. As many ids are used as the entries made nodes, at most 60
 -- for each of them on the whole, and the ids behind those are free.
 pub record IsKept (s : SoloView) : Type 0 where
-  pub stands : Stands (parts_in s) (tree_of s.entries)
-  pub dates : HasDates (tree_of s.entries)
+  pub stands : Stands (parts_in s) (tree_after s.entries)
+  pub dates : HasDates (tree_after s.entries)
   pub made : s.used ≡ made_by s.entries
   pub few : s.used ≤ 60 * length s.entries
   pub free : (k : ℕ) → s.used ≤ k → inode_at (parts_in s) (fresh_id 0 k) ≡ None

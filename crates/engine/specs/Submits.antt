@@ -2,7 +2,7 @@
 use Rattle.std.specs.Prelude.{◌≡◌, ℕ, suc, ◌+◌, true, false, List, [], ◌∷◌, ◌++◌, length, drop, slice_get, Some}
 use Rattle.namespace_model.specs.declared.request.Entry.{Entry}
 use Rattle.namespace_model.specs.declared.reply.Reply.{Reply}
-use Rattle.namespace_model.specs.Step.{step, tree_of, new_paths, replies_of}
+use Rattle.namespace_model.specs.Step.{step, tree_after, new_paths, replies_of}
 use Rattle.engine.specs.declared.solo.Answer.{Answer}
 use Rattle.engine.specs.Solos.{SoloView, parts_in, placed_behind}
 use Rattle.inode_tree.specs.After.{after}
@@ -22,7 +22,7 @@ texts_of journal = texts_from 1 (replies_of journal) journal
 
 -- the text of the reply to an entry behind a journal: its step on the tree that the journal leaves, under the number of its place
 abbrev pub next_text : List Entry → Entry → List ℕ
-next_text journal e = reply_text (step (tree_of journal) e (length journal + 1)).reply (length journal + 1) e.moment e.request.head
+next_text journal e = reply_text (step (tree_after journal) e (length journal + 1)).reply (length journal + 1) e.moment e.request.head
 
 -- What is worked out entry after entry is what the run of the whole journal gives at each place. Places count from 1 here, as numbers do.
 pub record SpellsTheRun (journal : List Entry) : Type 0 where
@@ -41,7 +41,7 @@ pub record Submits (old new : SoloView) (entry : Entry) (answer : Answer) : Type
   pub journal : new.entries ≡ old.entries ++ entry ∷ []
   pub text : texts_of new.entries ≡ texts_of old.entries ++ answer.bytes.items ∷ []
   pub parts : parts_in new ≡ after (parts_in old) (placed_behind old entry) (length new.entries)
-  pub ids : new.used ≡ old.used + length (new_paths (tree_of old.entries) entry)
+  pub ids : new.used ≡ old.used + length (new_paths (tree_after old.entries) entry)
   pub number : answer.receipt.number ≡ length new.entries
   pub written : AreBits answer.receipt.exclusive (λ k. writes (parts_in old) (placed_behind old entry) k ≡ true)
   pub read : AreBits answer.receipt.shared (λ k. (writes (parts_in old) (placed_behind old entry) k ≡ false) × (reads (parts_in old) (placed_behind old entry) k ≡ true))

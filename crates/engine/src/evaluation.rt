@@ -1,7 +1,7 @@
 ghost use Rattle.std.specs.Prelude.{◌≡◌, ◌<◌, ◌^◌, [], IfOk};
 ghost use Rattle.inode_tree.specs.Promises.{IsEvaluated};
 ghost use Rattle.inode_tree.specs.Views.{Grows};
-ghost use Rattle.namespace_model.specs.Built.{IsBuilt};
+ghost use Rattle.op_decode.specs.Built.{IsBuilt};
 ghost use Rattle.namespace_model.specs.Replies.{refusal};
 ghost use Rattle.namespace_model.specs.Sound.{IsSound};
 ghost use Rattle.path_walk.specs.Answers.{IsAnswered};

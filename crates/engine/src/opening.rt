@@ -15,7 +15,7 @@ use std::alloc::{AllocError, Global};
 pub(crate) fn account(alloc: Global) -> Result<Inode, AllocError>
     ensures { IfOk result (λ inode. bare inode ≡ account_inode) }
 {
-    let none = no_bits();
+    let none = Perm::NONE;
     let mode = ModeBits {
         sticky: false,
         owner: none,
@@ -36,13 +36,4 @@ pub(crate) fn account(alloc: Global) -> Result<Inode, AllocError>
         },
         content: Content::Directory(Children::new(alloc)),
     })
-}
-
-fn no_bits() -> Perm
-    ensures { result ≡ 0 }
-{
-    match Perm::new(0) {
-        Some(bits) => bits,
-        None => unreachable!(),
-    }
 }

@@ -54,9 +54,9 @@ impl Solo {
     ghost use Rattle.lease_state.specs.declared.lease.TheConstants.{LAST_MOMENT};
     ghost use Rattle.commit_journal.specs.Journal.{IsFull, IsFullFor, IsWithin};
     ghost use Rattle.inode_tree.specs.Stands.{Stands};
-    ghost use Rattle.namespace_model.specs.Built.{IsBuilt};
+    ghost use Rattle.op_decode.specs.Built.{IsBuilt};
     ghost use Rattle.namespace_model.specs.Sound.{IsSound};
-    ghost use Rattle.namespace_model.specs.Step.{tree_of};
+    ghost use Rattle.namespace_model.specs.Step.{tree_after};
     ghost use Rattle.engine.specs.Solos.{journal_in, made_by, parts_in};
     ghost use Rattle.engine.specs.Submits.{Submits, IsUnchanged, body_of};
 
@@ -76,7 +76,7 @@ impl Solo {
     /// The journal. The parts stand for the tree that its run leaves, and as many ids are used as its entries made nodes.
     pub fn journal(&self) -> &Journal<Entry>
         ensures journal { result.now ≡ journal_in self.now }
-        ensures stands { Stands (parts_in self.now) (tree_of self.now.entries) }
+        ensures stands { Stands (parts_in self.now) (tree_after self.now.entries) }
         ensures used { self.now.used ≡ made_by self.now.entries }
     {
         &self.journal

@@ -4,8 +4,8 @@ use Rattle.std.specs.List.{list_all, join_with_byte}
 use Rattle.std.proofs.lemmas.List.{append-nil}
 use Rattle.std.proofs.lemmas.List.Folds.{list_all-append}
 use Rattle.std.proofs.lemmas.Str.{IsUtf8-take, IsUtf8-drop, IsUtf8-append, IsCharBoundary-before_ascii}
-use Rattle.path_text.specs.Names.{is_fs_name}
-use Rattle.path_text.specs.Texts.{KeepsLimits, is_name, is_byte, is_control, path_text}
+use Rattle.path_text.specs.Names.{is_control, is_fs_name, is_name}
+use Rattle.path_text.specs.Texts.{KeepsLimits, is_byte, path_text}
 use Rattle.namespace_model.specs.Trees.{Path}
 use Rattle.namespace_model.proofs.Prefixes.{both, together}
 

@@ -2,18 +2,21 @@
 use Rattle.std.proofs.Common.{◌≡◌, ℕ, not, ◌&&◌, List, [], ◌∷◌, ◌++◌, drop, length, Option, Some, None, refl, ap, sym, subst, ◌∙◌}
 use Rattle.namespace_model.specs.declared.op.Op.{Op}
 use Rattle.namespace_model.specs.declared.op.Op.TheVariants as op
-use Rattle.namespace_model.specs.declared.code.Code.TheVariants.{ResourceTypeMismatch, PathNotFound, DirectoryNotEmpty}
+use Rattle.namespace_model.specs.declared.code.Code.TheVariants.{ResourceTypeMismatch, DirectoryNotEmpty}
 use Rattle.namespace_model.specs.declared.reply.Reply.{Reply}
 use Rattle.namespace_model.specs.declared.request.Entry.{Entry}
 use Rattle.namespace_model.specs.declared.request.Request.{Request}
 use Rattle.namespace_model.specs.Create.{Making, create, create_from, create_in, create_under, create_over, create_new, made, made_below, new_nodes, new_directory}
+use Rattle.namespace_model.specs.Access.{write_execute}
 use Rattle.namespace_model.specs.Effects.{Put, stamp}
 use Rattle.namespace_model.specs.Nodes.{Node, has_kind, is_directory}
-use Rattle.namespace_model.specs.Outcomes.{Outcome, answered, refused, reading, unless, noted, within}
-use Rattle.namespace_model.specs.Refusals.{caller_of, lacks, is_guarded, is_taken, is_unmet, is_unmet_without, refuse_if}
+use Rattle.namespace_model.specs.Outcomes.{Outcome, answered, reading, unless, noted}
+use Rattle.namespace_model.specs.Refusals.{caller_of, lacks, is_guarded, exists_already, is_unmet, is_unmet_without, refuse_if}
 use Rattle.namespace_model.specs.Sound.{IsSound}
 use Rattle.namespace_model.specs.Step.{acts}
-use Rattle.namespace_model.specs.Trees.{Path, Tree, at, parent, is_bare}
+use Rattle.namespace_model.specs.Trees.{Path, Tree, at, node_at, parent, is_bare}
+use Rattle.namespace_model.specs.Walks.{ended, hand_on}
+use Rattle.namespace_model.specs.Ways.{Way, reached, missing, blocked, closed, read_on, way_of}
 use Rattle.inode_tree.specs.declared.draft.Draft.{Draft}
 use Rattle.inode_tree.specs.declared.fresh.Fresh.{Fresh}
 use Rattle.inode_tree.specs.declared.id.NodeId.{NodeId}
@@ -22,9 +25,7 @@ use Rattle.inode_tree.specs.Promises.{is_one_of, IsDraft}
 use Rattle.inode_tree.specs.Views.{Held, Shown}
 use Rattle.path_walk.specs.Answers.{IsAnswered}
 use Rattle.path_walk.specs.Visits.{AreLookedAt}
-use Rattle.path_walk.specs.Ways.{Way, reached, missing, blocked, closed, read_on, way_of, read_from, ended}
 use Rattle.path_walk.proofs.AnswerLemmas.{answer_is_draft}
-use Rattle.path_walk.proofs.WayLemmas.{way_is, reading_both}
 use Rattle.op_create.specs.declared.place.Place.{Place}
 use Rattle.op_create.specs.Creates.{IsOfCreate, making_of as making_by, asked, Comes, IsPlace, replaced_path}
 
@@ -56,12 +57,9 @@ acts_are t e (op.Refused code) h = absurd h
 -- the step reads what is read on the way, and then comes what its end says
 pub create_is : (t : Tree) (e : Entry) (m : Making) → create t e m
     ≡ reading (read_on t (caller_of e) m.path)
-    (ended (create_from t e m) ResourceTypeMismatch (within (at t (parent m.path)) (refused PathNotFound) (create_in t e m)) (way_of t (caller_of e) m.path))
+    (ended (λ d. hand_on t d (create_from e m d)) ResourceTypeMismatch (hand_on t (parent m.path) (create_in t e m)) (way_of t (caller_of e) m.path))
 unfolding create
-create_is t e m =
-    ap (reading ([] ∷ [])) (way_is t (caller_of e) (create_from t e m) ResourceTypeMismatch (within (at t (parent m.path)) (refused PathNotFound) (create_in t e m)) [] (parent m.path))
-    ∙ reading_both ([] ∷ []) (read_from t (caller_of e) [] (parent m.path))
-    (ended (create_from t e m) ResourceTypeMismatch (within (at t (parent m.path)) (refused PathNotFound) (create_in t e m)) (way_of t (caller_of e) m.path))
+create_is t e m = refl
 
 -- Where an entry came from says nothing of its step.
 module _ (t : Tree) (conn index : ℕ) (request : Request) (moment : ℕ) (m : Making) where
@@ -88,35 +86,27 @@ module _ (t : Tree) (conn index : ℕ) (request : Request) (moment : ℕ) (m : M
       over_same : (y : Node) → create_over t one m dir y ≡ create_over t other m dir y
       over_same y = ap (λ (o : Outcome).
           unless (is_guarded (caller_of other) dir m.path y)
-          (unless (is_taken other)
+          (unless (exists_already other)
           (unless (is_unmet other y)
           (unless (refuse_if (not (has_kind m.kind y)) ResourceTypeMismatch)
           (unless (refuse_if (is_directory y && not (is_bare t m.path)) DirectoryNotEmpty) o))))) (below_same (parent m.path) dir (m.path ∷ []))
 
-      by_node : (o : Option Node) → unless (lacks (caller_of other) 3 (parent m.path) dir) (noted o m.path (create_new one m (parent m.path) dir) (create_over t one m dir))
-          ≡ unless (lacks (caller_of other) 3 (parent m.path) dir) (noted o m.path (create_new other m (parent m.path) dir) (create_over t other m dir))
-      by_node None = ap (unless (lacks (caller_of other) 3 (parent m.path) dir)) (new_same (parent m.path) dir)
-      by_node (Some y) = ap (λ o. unless (lacks (caller_of other) 3 (parent m.path) dir) (reading (m.path ∷ []) o)) (over_same y)
+      by_node : (o : Option Node) → unless (lacks (caller_of other) write_execute (parent m.path) dir) (noted o m.path (create_new one m (parent m.path) dir) (create_over t one m dir))
+          ≡ unless (lacks (caller_of other) write_execute (parent m.path) dir) (noted o m.path (create_new other m (parent m.path) dir) (create_over t other m dir))
+      by_node None = ap (unless (lacks (caller_of other) write_execute (parent m.path) dir)) (new_same (parent m.path) dir)
+      by_node (Some y) = ap (λ o. unless (lacks (caller_of other) write_execute (parent m.path) dir) (reading (m.path ∷ []) o)) (over_same y)
 
-  within_same : (u : Option Node) → within u (refused PathNotFound) (create_in t one m) ≡ within u (refused PathNotFound) (create_in t other m)
-  within_same None = refl
-  within_same (Some x) = in_same x
-
-  from_same : (d : Path) → create_from t one m d ≡ create_from t other m d
-  from_same [] = refl
-  from_same (fs ∷ names) = by_node (at t (fs ∷ names))
-    where
-      by_node : (u : Option Node) → within u (refused PathNotFound) (create_under one m (fs ∷ names)) ≡ within u (refused PathNotFound) (create_under other m (fs ∷ names))
-      by_node None = refl
-      by_node (Some x) = ap (unless (lacks (caller_of other) 3 (fs ∷ names) x)) (new_same (fs ∷ names) x)
+  from_same : (d : Path) (x : Node) → create_from one m d x ≡ create_from other m d x
+  from_same [] x = refl
+  from_same (fs ∷ names) x = ap (unless (lacks (caller_of other) write_execute (fs ∷ names) x)) (new_same (fs ∷ names) x)
 
   step_same : create t one m ≡ create t other m
   step_same = create_is t one m ∙ ap (reading (read_on t (caller_of other) m.path)) (by_way (way_of t (caller_of other) m.path)) ∙ sym (create_is t other m)
     where
-      by_way : (w : Way) → ended (create_from t one m) ResourceTypeMismatch (within (at t (parent m.path)) (refused PathNotFound) (create_in t one m)) w
-          ≡ ended (create_from t other m) ResourceTypeMismatch (within (at t (parent m.path)) (refused PathNotFound) (create_in t other m)) w
-      by_way reached = within_same (at t (parent m.path))
-      by_way (missing d) = from_same d
+      by_way : (w : Way) → ended (λ d. hand_on t d (create_from one m d)) ResourceTypeMismatch (hand_on t (parent m.path) (create_in t one m)) w
+          ≡ ended (λ d. hand_on t d (create_from other m d)) ResourceTypeMismatch (hand_on t (parent m.path) (create_in t other m)) w
+      by_way reached = in_same (node_at t (parent m.path))
+      by_way (missing d) = from_same d (node_at t d)
       by_way (blocked p) = refl
       by_way (closed p r) = refl
 

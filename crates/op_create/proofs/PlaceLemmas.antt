@@ -9,7 +9,7 @@ use Rattle.std.specs.Cmp.Lexicographic.{nat_list_cmp_total}
 use Rattle.std.specs.FinMap as fin
 use Rattle.std.specs.FinMap.{find}
 use Rattle.namespace_model.specs.declared.caller.Caller.{Caller}
-use Rattle.namespace_model.specs.declared.code.Code.TheVariants.{ResourceTypeMismatch, PathNotFound, DirectoryNotEmpty}
+use Rattle.namespace_model.specs.declared.code.Code.TheVariants.{ResourceTypeMismatch, DirectoryNotEmpty}
 use Rattle.namespace_model.specs.declared.denied.Refusal.{Refusal}
 use Rattle.namespace_model.specs.declared.op.Op.{Op}
 use Rattle.namespace_model.specs.declared.op.Op.TheVariants as op
@@ -18,11 +18,14 @@ use Rattle.namespace_model.specs.declared.request.Entry.{Entry}
 use Rattle.namespace_model.specs.declared.request.Request.{Request}
 use Rattle.namespace_model.specs.Create.{Making, create, create_from, create_in, create_under, create_over, create_new, made, made_below, new_nodes}
 use Rattle.namespace_model.specs.Locality.{Among}
-use Rattle.namespace_model.specs.Nodes.{Node, is_directory, is_directory_content, has_kind}
-use Rattle.namespace_model.specs.Outcomes.{Outcome, answered, refused, reading, unless, noted, within}
-use Rattle.namespace_model.specs.Refusals.{caller_of, nobody, lacks, or_else, refuse_if, is_guarded, is_taken, is_unmet, is_unmet_without}
+use Rattle.namespace_model.specs.Nodes.{Node, blank, is_directory, is_directory_content, has_kind}
+use Rattle.namespace_model.specs.Outcomes.{Outcome, answered, reading, unless, noted}
+use Rattle.namespace_model.specs.Refusals.{caller_of, nobody, lacks, or_else, refuse_if, is_guarded, exists_already, is_unmet, is_unmet_without}
 use Rattle.namespace_model.specs.Sound.{IsOperation}
 use Rattle.namespace_model.specs.Trees.{Path, Tree, at, parent, is_bare, children, is_child}
+use Rattle.namespace_model.specs.Walks.{ended, hand_on}
+use Rattle.namespace_model.specs.Ways.{Way, reached, missing, blocked, closed, passed, met, may_enter, base_of, way_from, way_of, read_on}
+use Rattle.namespace_model.proofs.WayLemmas.{reading_both}
 use Rattle.namespace_model.proofs.Effected.{drop_front}
 use Rattle.namespace_model.proofs.Lookups.{among_keys, keys_among}
 use Rattle.namespace_model.proofs.Prefixes.{length_append, name_child, child_name, parent_name}
@@ -51,12 +54,10 @@ use Rattle.path_walk.specs.declared.stop.Visit.{Visit}
 use Rattle.path_walk.specs.Answers.{stop_reply}
 use Rattle.path_walk.specs.Finds.{last_read, read_to, IsFound, IsFindFor, IsLook, IsLookAs}
 use Rattle.path_walk.specs.Visits.{end_of, IsVisitFor, AreLookedAt, IsOnTheWay, NeedsChild}
-use Rattle.path_walk.specs.Ways.{Way, reached, missing, blocked, closed, passed, met, may_enter, base_of, way_from, way_of, read_on, ended}
 use Rattle.path_walk.proofs.AnswerLemmas.{outcome_reads, read_need, way_need}
 use Rattle.path_walk.proofs.FindLemmas.{look_finds, child_needs}
 use Rattle.path_walk.proofs.StepLemmas.{reached_way}
 use Rattle.path_walk.proofs.TrailLemmas.{agreed, agrees_before, parent_take}
-use Rattle.path_walk.proofs.WayLemmas.{reading_both}
 use Rattle.op_create.specs.declared.place.Place.{Place}
 use Rattle.op_create.specs.Creates.{IsOfCreate, making_of as making_by, asked, has_no_children, refusal_over, refusal_by, Comes, IsPlace, LeadsTo, replaced_path}
 use Rattle.op_create.proofs.CreateLemmas.{create_is, step_is}
@@ -236,7 +237,7 @@ module _ (t : Tree) (e : Entry) (m : Making) (dir : Node) (y : BareInode) where
   guarded = is_guarded (caller_of e) dir m.path (node_of y)
 
   abbrev taken : Option Reply
-  taken = is_taken e
+  taken = exists_already e
 
   abbrev unmet : Option Reply
   unmet = is_unmet e (node_of y)
@@ -307,21 +308,24 @@ module _ (request : Request) (moment : ℕ) (caller : Caller) (path : Path) (by 
   by_caller = ap (λ c. unwrap_or c nobody) by
 
   abbrev after : Tree → Outcome
-  after t = within (at t (parent m.path)) (refused PathNotFound) (create_in t e m)
+  after t = hand_on t (parent m.path) (create_in t e m)
+
+  abbrev lost_at : Tree → Path → Outcome
+  lost_at t d = hand_on t d (create_from e m d)
 
   -- the step by the way
-  create_on : (t : Tree) → create t e m ≡ reading (read_on t caller path) (ended (create_from t e m) ResourceTypeMismatch (after t) (way_of t caller path))
+  create_on : (t : Tree) → create t e m ≡ reading (read_on t caller path) (ended (lost_at t) ResourceTypeMismatch (after t) (way_of t caller path))
   create_on t =
       create_is t e m
-      ∙ ap (λ c. reading (read_on t c m.path) (ended (create_from t e m) ResourceTypeMismatch (after t) (way_of t c m.path))) by_caller
-      ∙ ap (λ q. reading (read_on t caller q) (ended (create_from t e m) ResourceTypeMismatch (after t) (way_of t caller q))) named
+      ∙ ap (λ c. reading (read_on t c m.path) (ended (lost_at t) ResourceTypeMismatch (after t) (way_of t c m.path))) by_caller
+      ∙ ap (λ q. reading (read_on t caller q) (ended (lost_at t) ResourceTypeMismatch (after t) (way_of t caller q))) named
 
   -- a stripe of the way is needed
   pub way_needed : (held : Held) (shown : Shown) (fresh : Fresh) → IsOfCreate request.op → (s : EvalStop) → ((n : Need) → s ≡ stop.Need n → IsOnTheWay held shown caller path n)
       → IsEvaluated held shown request moment fresh (Err s)
   way_needed held shown fresh of_create (stop.Need n) on =
       way_need held shown request moment fresh caller path n (on n refl) (λ parts t en possible of. (
-        ended (create_from t e m) ResourceTypeMismatch (after t) (way_of t caller path),
+        ended (lost_at t) ResourceTypeMismatch (after t) (way_of t caller path),
         step_is t en.entry request moment of_create of.asks of.comes_at ∙ create_on t,
       ))
   way_needed held shown fresh of_create stop.NoMemory on = tt
@@ -336,7 +340,7 @@ module _ (request : Request) (moment : ℕ) (caller : Caller) (path : Path) (by 
           comes = create_on t ∙ ap (reading (read_on t caller path)) (by_way (way_of t caller path) s (sym is ∙ visit.ends) stops);
         }
       where
-        by_way : (w : Way) (s : End) → s ≡ end_of w → Stops s → ended (create_from t e m) ResourceTypeMismatch (after t) w ≡ answered (stop_reply ResourceTypeMismatch s)
+        by_way : (w : Way) (s : End) → s ≡ end_of w → Stops s → ended (lost_at t) ResourceTypeMismatch (after t) w ≡ answered (stop_reply ResourceTypeMismatch s)
         by_way reached s h stops = absurd (subst Stops h stops)
         by_way (missing []) s h stops = ap (λ k. answered (stop_reply ResourceTypeMismatch k)) (sym h)
         by_way (missing (fs ∷ names)) s h stops =
@@ -356,9 +360,9 @@ module _ (request : Request) (moment : ℕ) (caller : Caller) (path : Path) (by 
       in_comes : (parts : Parts) (t : Tree) → Stands parts t → Agrees shown parts → create t e m ≡ reading (read_on t caller path) (create_in t e m (node_of v.node))
       in_comes parts t stands agrees =
           create_on t
-          ∙ ap (λ w. reading (read_on t caller path) (ended (create_from t e m) ResourceTypeMismatch (after t) w)) (way_reached parts t stands agrees)
-          ∙ ap (λ q. reading (read_on t caller path) (within (at t (parent q)) (refused PathNotFound) (create_in t e m))) named
-          ∙ ap (λ u. reading (read_on t caller path) (within u (refused PathNotFound) (create_in t e m)))
+          ∙ ap (λ w. reading (read_on t caller path) (ended (lost_at t) ResourceTypeMismatch (after t) w)) (way_reached parts t stands agrees)
+          ∙ ap (λ q. reading (read_on t caller path) (hand_on t (parent q) (create_in t e m))) named
+          ∙ ap (λ u. reading (read_on t caller path) (create_in t e m (unwrap_or u blank)))
           (shows_node parts t stands (parent path) v.base.0 v.node (parent_id parts t stands agrees) (visited parts t stands agrees).there)
 
       abbrev none_there : Outcome
@@ -524,9 +528,9 @@ module _ (request : Request) (moment : ℕ) (caller : Caller) (path : Path) (by 
           let k : depth - 1 ≡ length l.0 = let e = l.2 in omega arith in
           ap (λ j. drop j path) k ∙ ap (drop (length l.0)) h.2 ∙ drop_front l.0 (h.0 ∷ h.1)
 
-      from_is : (t : Tree) (d : Path) (x : Node) → 1 ≤ length d → at t d ≡ Some x → create_from t e m d ≡ create_under e m d x
+      from_is : (t : Tree) (d : Path) (x : Node) → 1 ≤ length d → at t d ≡ Some x → lost_at t d ≡ create_under e m d x
       from_is t [] x some there = absurd (let k : 1 ≤ 0 = some in omega arith)
-      from_is t (fs ∷ names) x some there = ap (λ u. within u (refused PathNotFound) (create_under e m (fs ∷ names))) there
+      from_is t (fs ∷ names) x some there = ap (λ u. create_under e m (fs ∷ names) (unwrap_or u blank)) there
 
       module _ (front names : Path) (r : Option Reply) (place : Place) (front_same : front ≡ take (depth - 1) path) (names_same : names ≡ drop (depth - 1) path)
           (says : r ≡ or_else (lacks caller 3 front (node_of v.node)) (is_unmet_without e)) (ids_are : place.ids.items ≡ v.ids) (base_is : place.base ≡ v.base) (node_is : place.node ≡ v.node)
@@ -538,8 +542,8 @@ module _ (request : Request) (moment : ℕ) (caller : Caller) (path : Path) (by 
             let leads : follow parts 0 front ≡ Some v.base.0 = ap (follow parts 0) is ∙ ap (λ w. follow parts 0 (base_of path w)) (sym l.1) ∙ visit.leads in
             let long : 1 ≤ length front = let a : length front ≡ length l.0 = ap (λ (q : Path). length q) is in let b = l.2 in let c = deep in omega arith in
             create_on t
-            ∙ ap (λ w. reading (read_on t caller path) (ended (create_from t e m) ResourceTypeMismatch (after t) w)) l.1
-            ∙ ap (λ d. reading (read_on t caller path) (create_from t e m d)) (sym is)
+            ∙ ap (λ w. reading (read_on t caller path) (ended (lost_at t) ResourceTypeMismatch (after t) w)) l.1
+            ∙ ap (λ d. reading (read_on t caller path) (lost_at t d)) (sym is)
             ∙ ap (reading (read_on t caller path)) (from_is t front (node_of v.node) long (shows_node parts t stands front v.base.0 v.node leads visit.there)
             ∙ ap (λ c. unless (lacks c 3 front (node_of v.node)) (unless (is_unmet_without e) (made_below e m front (node_of v.node) []))) by_caller
             ∙ unless_both (lacks caller 3 front (node_of v.node)) (is_unmet_without e) (made_below e m front (node_of v.node) [])

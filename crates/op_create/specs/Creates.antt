@@ -11,7 +11,7 @@ use Rattle.namespace_model.specs.declared.request.Request.{Request}
 use Rattle.namespace_model.specs.Create.{Making, create, made, new_nodes}
 use Rattle.namespace_model.specs.Nodes.{Node, has_kind}
 use Rattle.namespace_model.specs.Outcomes.{Outcome, reading, unless}
-use Rattle.namespace_model.specs.Refusals.{caller_of, or_else, refuse_if, is_guarded, is_taken, is_unmet, is_unmet_without}
+use Rattle.namespace_model.specs.Refusals.{caller_of, or_else, refuse_if, is_guarded, exists_already, is_unmet, is_unmet_without}
 use Rattle.namespace_model.specs.Trees.{Path, Tree}
 use Rattle.inode_tree.specs.declared.id.NodeId.{NodeId}
 use Rattle.inode_tree.specs.Footprints.{ids_of}
@@ -48,7 +48,7 @@ has_no_children x = fin.len (links_in x.content) == 0
 abbrev pub refusal_over : Entry → Making → Node → BareInode → Option Reply
 refusal_over e m dir y =
     or_else (is_guarded (caller_of e) dir m.path (node_of y))
-    (or_else (is_taken e)
+    (or_else (exists_already e)
     (or_else (is_unmet e (node_of y))
     (or_else (refuse_if (not (has_kind m.kind (node_of y))) ResourceTypeMismatch)
     (refuse_if (not (has_no_children y)) DirectoryNotEmpty))))

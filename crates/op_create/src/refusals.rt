@@ -1,8 +1,9 @@
 //! What a request is refused for.
-ghost use Rattle.std.specs.Prelude.{◌≡◌, ◌<◌, Some, IfOk, false, is_ok};
+ghost use Rattle.std.specs.Prelude.{◌≡◌, Some, IfOk, false, is_ok};
 ghost use Rattle.std.specs.Option.{option_map_or};
 ghost use Rattle.inode_tree.specs.Inodes.{node_of};
 ghost use Rattle.head_text.specs.ConditionsOf.{conditions_of};
+ghost use Rattle.namespace_model.specs.Access.{write_execute};
 ghost use Rattle.namespace_model.specs.Refusals.{lacks, or_else, is_unmet_without, is_guarded, stamps_of};
 ghost use Rattle.namespace_model.specs.Nodes.{has_kind};
 ghost use Rattle.op_create.specs.Creates.{IsOfCreate, asked, making_of, has_no_children, refusal_over, refusal_by};
@@ -16,30 +17,19 @@ use path_text::Path;
 use path_walk::{Found, denial, is_directory, refusal};
 use std::alloc::{AllocError, Global};
 
-// Permissions below 8.
-fn bits(count: u8) -> Perm
-    requires { count < 8 }
-    ensures { result ≡ count }
-{
-    match Perm::new(count) {
-        Some(bits) => bits,
-        None => unreachable!(),
-    }
-}
-
 // The refusal of a caller that may not write and execute in the directory at a path.
 pub(crate) fn lacks(alloc: Global, caller: &Caller, at: Path, node: &NodeRef) -> Option<Reply>
-    ensures { result ≡ lacks caller.now 3 at (node_of node.now) }
+    ensures { result ≡ lacks caller.now write_execute at (node_of node.now) }
 {
     let meta = &node.inode().meta;
-    match check(&meta.acl.access, &meta.owner, &meta.group, caller, bits(3)) {
+    match check(&meta.acl.access, &meta.owner, &meta.group, caller, Perm::WRITE_EXECUTE) {
         Ok(()) => None,
         Err(refusal) => Some(denial(
             alloc,
             Denied {
                 rule: refusal.rule,
                 at,
-                want: bits(3),
+                want: Perm::WRITE_EXECUTE,
                 have: refusal.have,
             },
         )),
@@ -109,7 +99,7 @@ fn refused_over(
     if let Some(reply) = guarded(alloc, request, caller, dir, node)? {
         return Ok(Some(reply));
     }
-    if is_taken(&request.cond) {
+    if exists_already(&request.cond) {
         return Ok(Some(refusal(alloc, Code::PathAlreadyExists)));
     }
     if !is_met(&request.cond, node) {
@@ -146,8 +136,8 @@ fn guarded(
             Denied {
                 rule: Rule::Sticky,
                 at: path.copy(alloc)?,
-                want: bits(0),
-                have: bits(0),
+                want: Perm::NONE,
+                have: Perm::NONE,
             },
         ))),
         _ => unreachable!(),
@@ -155,7 +145,7 @@ fn guarded(
 }
 
 // Whether no node may be there.
-fn is_taken(cond: &Conditions) -> bool
+fn exists_already(cond: &Conditions) -> bool
     ensures { result ≡ option_map_or (λ tags. tags.any) cond.now.none false }
 {
     match &cond.none {

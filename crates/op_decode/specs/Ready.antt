@@ -4,7 +4,7 @@ use Rattle.acl_text.specs.Ids.{superuser}
 use Rattle.namespace_model.specs.declared.caller.Caller.{Caller}
 use Rattle.namespace_model.specs.declared.op.Op.{Op}
 use Rattle.namespace_model.specs.declared.op.Op.TheVariants as op
-use Rattle.namespace_model.specs.Built.{IsBuiltOperation}
+use Rattle.op_decode.specs.Built.{IsBuiltOperation}
 use Rattle.namespace_model.specs.Sound.{IsOperation}
 use Rattle.op_decode.specs.declared.asked.Asked.{Asked}
 

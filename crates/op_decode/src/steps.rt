@@ -2,7 +2,7 @@ ghost use Rattle.std.specs.Prelude.{◌≡◌, length, IfOk};
 ghost use Rattle.std.specs.Option.{option_copied};
 ghost use Rattle.acl_text.specs.Ids.{superuser};
 ghost use Rattle.path_text.specs.Texts.{KeepsLimits};
-ghost use Rattle.namespace_model.specs.Built.{IsBuilt, no_conditions};
+ghost use Rattle.op_decode.specs.Built.{IsBuilt, no_conditions};
 ghost use Rattle.namespace_model.specs.Sound.{IsSound};
 ghost use Rattle.op_decode.specs.Callers.{built_caller, caller_named, caller_of};
 ghost use Rattle.op_decode.specs.Decoded.{asked, asked_after_caller, asked_by, decoded, has_other_encoding, op_of, refused};

@@ -9,7 +9,7 @@ use Rattle.namespace_model.specs.declared.denied.Rule.TheVariants as rule
 use Rattle.namespace_model.specs.declared.reply.Reply.{Reply}
 use Rattle.namespace_model.specs.declared.request.Entry.{Entry}
 use Rattle.namespace_model.specs.Access.{access_check, cases, decided, Case, is_superuser, sticky_lets}
-use Rattle.namespace_model.specs.Built.{no_conditions}
+use Rattle.op_decode.specs.Built.{no_conditions}
 use Rattle.namespace_model.specs.Delete.{delete, delete_in, delete_node, cleared, gone, not_clearable}
 use Rattle.namespace_model.specs.Nodes.{Node, is_directory}
 use Rattle.namespace_model.specs.Outcomes.{Outcome, reading, refused, unless, noted, within}

@@ -14,7 +14,7 @@ use Rattle.namespace_model.specs.declared.code.Code.TheVariants.{PathNotFound, D
 use Rattle.namespace_model.specs.declared.op.Op.TheVariants as op
 use Rattle.namespace_model.specs.declared.request.Entry.{Entry}
 use Rattle.namespace_model.specs.declared.request.Request.{Request}
-use Rattle.namespace_model.specs.Built.{HasBuiltHeaders, no_conditions}
+use Rattle.op_decode.specs.Built.{HasBuiltHeaders, no_conditions}
 use Rattle.namespace_model.specs.Delete.{delete, gone}
 use Rattle.namespace_model.specs.Nodes.{Node, is_directory}
 use Rattle.namespace_model.specs.Outcomes.{Outcome, reading, refused, unless}

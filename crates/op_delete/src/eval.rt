@@ -3,7 +3,7 @@ ghost use Rattle.inode_tree.specs.declared.fresh.Fresh.{Fresh};
 ghost use Rattle.inode_tree.specs.Promises.{IsEvaluated};
 ghost use Rattle.inode_tree.specs.Views.{Grows};
 ghost use Rattle.namespace_model.specs.declared.op.Op.TheVariants as op;
-ghost use Rattle.namespace_model.specs.Built.{IsBuilt, HasBuiltHeaders};
+ghost use Rattle.op_decode.specs.Built.{IsBuilt, HasBuiltHeaders};
 ghost use Rattle.namespace_model.specs.Sound.{IsSound};
 ghost use Rattle.op_delete.specs.Removals.{IsOfDelete, IsAtParent, IsTarget, IsRemoval, is_leased};
 

@@ -6,7 +6,8 @@ ghost use Rattle.namespace_model.specs.Replies.{refusal, denial, success, stamp_
 ghost use Rattle.op_filesystem.specs.Filesystems.{account_id, IsMade};
 ghost use Rattle.path_walk.specs.Answers.{IsAnswered};
 
-use super::root::{bits, root_inode};
+use super::root::root_inode;
+use acl_text::Perm;
 use file_data::Piece;
 use head_text::Props;
 use inode_tree::{Change, Draft, NodeId};
@@ -22,8 +23,8 @@ pub(crate) fn superuser_only(alloc: Global, path: &Path, close: bool) -> Result<
     let denied = Denied {
         rule: Rule::SuperuserOnly,
         at: path.copy(alloc)?,
-        want: bits(0),
-        have: bits(0),
+        want: Perm::NONE,
+        have: Perm::NONE,
     };
     answered(alloc, Vec::new(alloc), denial(alloc, denied), close)
 }

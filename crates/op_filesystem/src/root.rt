@@ -18,7 +18,7 @@ pub(crate) fn root_name(alloc: Global, path: &Path) -> Result<Name, AllocError>
     ensures { IfOk result (λ name. path.now ≡ name ∷ []) }
 {
     match path.fs() {
-        Some(fs) => fs.name(alloc),
+        Some(fs) => fs.name().copy(alloc),
         None => unreachable!(),
     }
 }
@@ -29,22 +29,11 @@ fn root_access(alloc: Global) -> Result<AclPair, AllocError>
 {
     let mode = ModeBits {
         sticky: false,
-        owner: bits(7),
-        group: bits(5),
-        other: bits(0),
+        owner: Perm::ALL,
+        group: Perm::READ_EXECUTE,
+        other: Perm::NONE,
     };
     base_pair(alloc, &mode)
-}
-
-// Permissions below 8.
-pub(crate) fn bits(count: u8) -> Perm
-    requires { count < 8 }
-    ensures { result ≡ count }
-{
-    match Perm::new(count) {
-        Some(bits) => bits,
-        None => unreachable!(),
-    }
 }
 
 // The properties that were given, or none.

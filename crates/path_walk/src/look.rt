@@ -37,8 +37,11 @@ pub fn may_enter(node: &NodeRef, caller: &Caller) -> Result<(), Refusal>
     ensures { result ≡ may_enter caller.now (node_of node.now) }
 {
     let meta = &node.inode().meta;
-    match Perm::new(1) {
-        Some(execute) => check(&meta.acl.access, &meta.owner, &meta.group, caller, execute),
-        None => unreachable!(),
-    }
+    check(
+        &meta.acl.access,
+        &meta.owner,
+        &meta.group,
+        caller,
+        Perm::EXECUTE,
+    )
 }

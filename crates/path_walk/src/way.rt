@@ -226,15 +226,12 @@ fn ended(trail: Trail, end: End) -> Visit
 fn denied(at: Path, refusal: Refusal) -> End
     ensures { result ≡ end.Denied (record { rule = refusal.rule; at = at; want = 1; have = refusal.have }) }
 {
-    match Perm::new(1) {
-        Some(want) => End::Denied(Denied {
-            rule: refusal.rule,
-            at,
-            want,
-            have: refusal.have,
-        }),
-        None => unreachable!(),
-    }
+    End::Denied(Denied {
+        rule: refusal.rule,
+        at,
+        want: Perm::EXECUTE,
+        have: refusal.have,
+    })
 }
 
 // What stands at a name of a directory that was looked at.

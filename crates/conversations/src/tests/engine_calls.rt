@@ -1,5 +1,5 @@
 ghost use Rattle.std.specs.Prelude.{IfOk};
-ghost use Rattle.namespace_model.specs.Built.{IsBuilt};
+ghost use Rattle.op_decode.specs.Built.{IsBuilt};
 ghost use Rattle.namespace_model.specs.Sound.{IsSound};
 
 use commit_journal::{Full, Limits};

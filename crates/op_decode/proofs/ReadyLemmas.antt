@@ -17,7 +17,8 @@ use Rattle.namespace_model.specs.declared.code.Code.{Code}
 use Rattle.namespace_model.specs.declared.code.Code.TheVariants as code
 use Rattle.namespace_model.specs.declared.op.Op.{Op}
 use Rattle.namespace_model.specs.declared.op.Op.TheVariants as op
-use Rattle.op_decode.specs.Built.{IsBuilt, IsBuiltOperation, HasBuiltHeadersFor, no_conditions}
+use Rattle.head_text.specs.Conditions.{no_conditions}
+use Rattle.op_decode.specs.Built.{IsBuilt, IsBuiltOperation, HasBuiltHeadersFor}
 use Rattle.namespace_model.specs.declared.request.Request.{Request}
 use Rattle.namespace_model.specs.Sound.{IsSound, IsOperation, IsCaller, HasCaller, is_of_decoding}
 use Rattle.op_decode.specs.declared.asked.Asked.{Asked}

@@ -7,7 +7,7 @@ use Rattle.namespace_model.specs.declared.code.Code.TheVariants.{InvalidUri, Uns
 use Rattle.namespace_model.specs.declared.op.Op.{Op}
 use Rattle.namespace_model.specs.declared.op.Op.TheVariants.{Refused}
 use Rattle.namespace_model.specs.declared.request.Request.{Request}
-use Rattle.op_decode.specs.Built.{no_conditions}
+use Rattle.head_text.specs.Conditions.{no_conditions}
 use Rattle.op_decode.specs.declared.asked.Asked.{Asked}
 use Rattle.op_decode.specs.declared.operation.Operation.{Operation}
 use Rattle.op_decode.specs.Headers.{header, is_other_text}

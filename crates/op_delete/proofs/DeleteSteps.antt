@@ -1,25 +1,25 @@
 -- The model's step of a delete by the superuser, without conditions and lease ids.
-use Rattle.std.proofs.Common.{◌≡◌, ℕ, ◌==◌, ◌≤◌, Bool, true, false, cond, not, ◌&&◌, List, [], ◌∷◌, ◌++◌, length, Option, Some, None, Ok, refl, sym, ap, ◌∙◌, arith}
+use Rattle.std.proofs.Common.{◌≡◌, ℕ, ◌==◌, ◌≤◌, Bool, true, false, cond, not, ◌&&◌, List, [], ◌∷◌, ◌++◌, length, Option, Some, None, unwrap_or, Ok, refl, sym, ap, ◌∙◌, arith}
 use Rattle.std.proofs.lemmas.Bool.Decides.{nat_tests}
 use Rattle.acl_text.specs.Ids.{superuser}
 use Rattle.acl_text.specs.declared.who.Who.{Who}
+use Rattle.head_text.specs.Conditions.{no_conditions}
 use Rattle.head_text.specs.ConditionsOf.{conditions_of}
 use Rattle.namespace_model.specs.declared.code.Code.TheVariants.{PathNotFound, DirectoryNotEmpty, FilesystemNotFound}
 use Rattle.namespace_model.specs.declared.denied.Rule.TheVariants as rule
 use Rattle.namespace_model.specs.declared.reply.Reply.{Reply}
 use Rattle.namespace_model.specs.declared.request.Entry.{Entry}
 use Rattle.namespace_model.specs.Access.{access_check, cases, decided, Case, is_superuser, sticky_lets}
-use Rattle.op_decode.specs.Built.{no_conditions}
 use Rattle.namespace_model.specs.Delete.{delete, delete_in, delete_node, cleared, gone, not_clearable}
-use Rattle.namespace_model.specs.Nodes.{Node, is_directory}
-use Rattle.namespace_model.specs.Outcomes.{Outcome, reading, refused, unless, noted, within}
+use Rattle.namespace_model.specs.Nodes.{Node, blank, is_directory}
+use Rattle.namespace_model.specs.Outcomes.{Outcome, reading, refused, unless, noted}
 use Rattle.namespace_model.specs.Refusals.{caller_of, lacks, denied_by, is_guarded, deny_unless, is_unmet, unmet_for_change, stamps_of, lease_refuses, refuse_if, or_else, first_refusal}
 use Rattle.namespace_model.specs.Trees.{Path, Tree, at, node_at, parent, is_bare, children, subtree}
-use Rattle.namespace_model.specs.Walks.{missing_below, missing_code}
+use Rattle.namespace_model.specs.Walks.{ended, hand_on, missing_below, missing_code}
+use Rattle.namespace_model.specs.Ways.{reached, way_of, read_on}
 use Rattle.namespace_model.proofs.Prefixes.{same_bytes}
+use Rattle.namespace_model.proofs.WayLemmas.{reading_both}
 use Rattle.path_walk.specs.Finds.{read_to, last_read}
-use Rattle.path_walk.specs.Ways.{reached, way_of, read_on, ended}
-use Rattle.path_walk.proofs.WayLemmas.{walk_is, reading_both}
 use Rattle.op_delete.specs.Removals.{the_superuser}
 
 -- ---- what never refuses
@@ -100,19 +100,17 @@ module _ (t : Tree) (e : Entry) (p : Path) (recursive : Bool) (by : caller_of e 
       ∙ ap (λ r. unless r (noted (at t p) p (refused (missing_code p PathNotFound)) (delete_node t e p recursive dir))) (lacks_none 3 (parent p) dir)
 
   abbrev pub behind_way : Outcome
-  behind_way = within (at t (parent p)) (refused PathNotFound) (delete_in t e p recursive)
+  behind_way = hand_on t (parent p) (delete_in t e p recursive)
 
   -- the way is read, and then comes what its end says
   pub way_is : delete t e p recursive ≡ reading (read_on t the_superuser p) (ended (missing_below PathNotFound) PathNotFound behind_way (way_of t the_superuser p))
   unfolding delete
-  way_is =
-      walk_is t (caller_of e) PathNotFound p behind_way
-      ∙ ap (λ c. reading (read_on t c p) (ended (missing_below PathNotFound) PathNotFound behind_way (way_of t c p))) by
+  way_is = ap (λ c. reading (read_on t c p) (ended (missing_below PathNotFound) PathNotFound behind_way (way_of t c p))) by
 
   reached_is : (dir : Node) → way_of t the_superuser p ≡ reached → at t (parent p) ≡ Some dir → delete t e p recursive ≡ reading (read_on t the_superuser p) (delete_in t e p recursive dir)
   reached_is dir same there =
       way_is ∙ ap (λ w. reading (read_on t the_superuser p) (ended (missing_below PathNotFound) PathNotFound behind_way w)) same
-      ∙ ap (λ o. reading (read_on t the_superuser p) (within o (refused PathNotFound) (delete_in t e p recursive))) there
+      ∙ ap (λ o. reading (read_on t the_superuser p) (delete_in t e p recursive (unwrap_or o blank))) there
 
   -- nothing stands at the path
   pub missing_is : (dir : Node) → way_of t the_superuser p ≡ reached → at t (parent p) ≡ Some dir → at t p ≡ None → 2 ≤ length p

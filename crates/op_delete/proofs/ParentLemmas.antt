@@ -16,7 +16,7 @@ use Rattle.path_walk.specs.declared.stop.End.TheVariants as end
 use Rattle.path_walk.specs.declared.stop.Visit.{Visit}
 use Rattle.path_walk.specs.Finds.{IsFound, IsLook, IsLookAs}
 use Rattle.path_walk.specs.Visits.{IsVisitFor, AreLookedAt}
-use Rattle.path_walk.specs.Ways.{base_of}
+use Rattle.namespace_model.specs.Ways.{base_of}
 use Rattle.path_walk.proofs.FindLemmas.{look_finds, path_id, last_name}
 use Rattle.path_walk.proofs.TrailLemmas.{agreed, agrees_before}
 use Rattle.op_delete.specs.declared.eval.Target.{Target}

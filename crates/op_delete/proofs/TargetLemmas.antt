@@ -9,12 +9,12 @@ use Rattle.lease_state.specs.declared.lease.LeaseFault.{LeaseFault}
 use Rattle.lease_state.specs.declared.lease.State.{State}
 use Rattle.lease_state.specs.declared.lease.State.TheVariants as state
 use Rattle.lease_state.specs.LeaseTable.{lease_state, lease_may_write, written_without_id}
+use Rattle.head_text.specs.Conditions.{no_conditions}
 use Rattle.namespace_model.specs.declared.caller.Caller.{Caller}
 use Rattle.namespace_model.specs.declared.code.Code.TheVariants.{PathNotFound, DirectoryNotEmpty, LeaseIdMissing}
 use Rattle.namespace_model.specs.declared.op.Op.TheVariants as op
 use Rattle.namespace_model.specs.declared.request.Entry.{Entry}
 use Rattle.namespace_model.specs.declared.request.Request.{Request}
-use Rattle.op_decode.specs.Built.{HasBuiltHeaders, no_conditions}
 use Rattle.namespace_model.specs.Delete.{delete, gone}
 use Rattle.namespace_model.specs.Nodes.{Node, is_directory}
 use Rattle.namespace_model.specs.Outcomes.{Outcome, reading, refused, unless}
@@ -23,6 +23,8 @@ use Rattle.namespace_model.specs.Replies.{refusal}
 use Rattle.namespace_model.specs.Sound.{IsSound, IsOperation}
 use Rattle.namespace_model.specs.Step.{acts}
 use Rattle.namespace_model.specs.Trees.{Path, Tree, at, parent, is_bare, subtree}
+use Rattle.namespace_model.specs.Ways.{reached, base_of, way_of, read_on}
+use Rattle.namespace_model.proofs.WayLemmas.{reading_both}
 use Rattle.namespace_model.proofs.Alikeness.{among_right}
 use Rattle.inode_tree.specs.declared.draft.Draft.{Draft}
 use Rattle.inode_tree.specs.declared.draft.EvalStop.{EvalStop}
@@ -47,14 +49,12 @@ use Rattle.path_walk.specs.declared.stop.Visit.{Visit}
 use Rattle.path_walk.specs.Answers.{stop_reply, IsAnswered}
 use Rattle.path_walk.specs.Finds.{last_read, read_to, IsFound, IsFindFor, IsNeedOfFind}
 use Rattle.path_walk.specs.Visits.{end_of, IsVisitFor, AreLookedAt, IsOnTheWay}
-use Rattle.path_walk.specs.Ways.{reached, base_of, way_of, read_on}
 use Rattle.path_walk.proofs.AnswerLemmas.{answer_is_draft, read_need, way_need, outcome_reads, stop_is}
 use Rattle.path_walk.proofs.SetLemmas.{one_lies, one_has}
 use Rattle.path_walk.proofs.StepLemmas.{reached_way}
 use Rattle.path_walk.proofs.TrailLemmas.{agrees_before, looked_grows, one_of_append}
-use Rattle.path_walk.proofs.WayLemmas.{reading_both}
 use Rattle.op_delete.specs.declared.eval.Target.{Target}
-use Rattle.op_delete.specs.Removals.{the_superuser, has_children, is_leased, AreCollected, NeedsBelow, visit_to, IsTarget, IsRemoval}
+use Rattle.op_delete.specs.Removals.{the_superuser, IsPlain, has_children, is_leased, AreCollected, NeedsBelow, visit_to, IsTarget, IsRemoval}
 use Rattle.op_delete.proofs.BelowLemmas.{looked_both, both_lists}
 use Rattle.op_delete.proofs.DeleteSteps.{node_gone, taken_out, behind_way, way_is, missing_is, found_is}
 use Rattle.op_delete.proofs.SubtreeLemmas.{below_there, collected_ids, bare_above, children_there}
@@ -84,21 +84,21 @@ stopped_by held shown request moment fresh stop.NoMemory needs = tt
 
 -- ---- the request
 
-module _ (request : Request) (path : Path) (recursive : Bool) (asked : request.op ≡ op.Delete path recursive) (built : HasBuiltHeaders request) where
+module _ (request : Request) (path : Path) (recursive : Bool) (asked : request.op ≡ op.Delete path recursive) (plain : IsPlain request) where
   pub caller_is : (caller : Caller) → request.caller ≡ Some caller → caller ≡ the_superuser
-  caller_is caller by = same_Some caller the_superuser (sym by ∙ built.caller)
+  caller_is caller by = same_Some caller the_superuser (sym by ∙ plain.caller)
 
   step : (t : Tree) (e : Entry) → e.request ≡ request → acts t e e.request.op ≡ delete t e path recursive
   step t e asks = ap (λ (r : Request). acts t e r.op) asks ∙ ap (acts t e) asked
 
   by_it : (e : Entry) → e.request ≡ request → caller_of e ≡ the_superuser
-  by_it e asks = ap (λ (r : Request). unwrap_or r.caller nobody) asks ∙ ap (λ c. unwrap_or c nobody) built.caller
+  by_it e asks = ap (λ (r : Request). unwrap_or r.caller nobody) asks ∙ ap (λ c. unwrap_or c nobody) plain.caller
 
   free_of : (e : Entry) → e.request ≡ request → e.request.cond ≡ no_conditions
-  free_of e asks = ap (λ (r : Request). r.cond) asks ∙ built.conditions
+  free_of e asks = ap (λ (r : Request). r.cond) asks ∙ plain.conditions
 
   lease_of : (e : Entry) → e.request ≡ request → e.request.lease ≡ None
-  lease_of e asks = ap (λ (r : Request). r.lease) asks ∙ built.lease
+  lease_of e asks = ap (λ (r : Request). r.lease) asks ∙ plain.lease
 
   pub long_path : IsSound request → 2 ≤ length path
   long_path sound = (subst (λ o. IsOperation o (length request.body)) asked sound.operation).parts

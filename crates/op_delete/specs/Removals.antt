@@ -3,6 +3,7 @@ use Rattle.std.specs.Prelude.{◌≡◌, ℕ, ◌%◌, ◌<◌, Bool, true, fals
 use Rattle.std.specs.Result.{is_err}
 use Rattle.std.specs.FinMap as fin
 use Rattle.acl_text.specs.Ids.{superuser}
+use Rattle.head_text.specs.Conditions.{no_conditions}
 use Rattle.lease_state.specs.LeaseTable.{lease_may_write}
 use Rattle.lock_core.specs.declared.object.LockMode.TheVariants.{Shared}
 use Rattle.namespace_model.specs.declared.caller.Caller.{Caller}
@@ -15,6 +16,7 @@ use Rattle.namespace_model.specs.Outcomes.{reading}
 use Rattle.namespace_model.specs.Replies.{success}
 use Rattle.namespace_model.specs.Step.{acts, closing}
 use Rattle.namespace_model.specs.Trees.{Path, Tree, parent, subtree}
+use Rattle.namespace_model.specs.Ways.{reached, way_of}
 use Rattle.inode_tree.specs.declared.change.Change.{Change}
 use Rattle.inode_tree.specs.declared.change.Change.TheVariants as change
 use Rattle.inode_tree.specs.declared.draft.Draft.{Draft}
@@ -30,7 +32,6 @@ use Rattle.path_walk.specs.declared.stop.End.TheVariants as end
 use Rattle.path_walk.specs.declared.stop.Visit.{Visit}
 use Rattle.path_walk.specs.Finds.{read_to}
 use Rattle.path_walk.specs.Visits.{IsVisitFor, AreLookedAt, IsHeldAndShown}
-use Rattle.path_walk.specs.Ways.{reached, way_of}
 use Rattle.op_delete.specs.declared.eval.Target.{Target}
 
 -- the operations of this evaluator
@@ -41,6 +42,12 @@ IsOfDelete other = ⊥
 -- who asks
 abbrev pub the_superuser : Caller
 the_superuser = record { id = superuser; groups = [] }
+
+-- the request is the superuser's, without conditions and a lease id, so that no right and no sticky bit can keep it out
+pub record IsPlain (request : Request) : Type 0 where
+  pub caller : request.caller ≡ Some the_superuser
+  pub conditions : request.cond ≡ no_conditions
+  pub lease : request.lease ≡ None
 
 -- a lease holds at the moment, so that nobody writes without its id
 abbrev pub is_leased : BareInode → ℕ → Bool

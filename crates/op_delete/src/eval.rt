@@ -3,9 +3,8 @@ ghost use Rattle.inode_tree.specs.declared.fresh.Fresh.{Fresh};
 ghost use Rattle.inode_tree.specs.Promises.{IsEvaluated};
 ghost use Rattle.inode_tree.specs.Views.{Grows};
 ghost use Rattle.namespace_model.specs.declared.op.Op.TheVariants as op;
-ghost use Rattle.op_decode.specs.Built.{IsBuilt, HasBuiltHeaders};
 ghost use Rattle.namespace_model.specs.Sound.{IsSound};
-ghost use Rattle.op_delete.specs.Removals.{IsOfDelete, IsAtParent, IsTarget, IsRemoval, is_leased};
+ghost use Rattle.op_delete.specs.Removals.{IsOfDelete, IsPlain, IsAtParent, IsTarget, IsRemoval, is_leased};
 
 use super::below::collect;
 use super::drafts::{removed, written};
@@ -37,7 +36,7 @@ pub(crate) struct Target {
 /// which their stripes have to be held at least shared; where nodes are taken away, their stripes and that of their directory have to be
 /// held exclusively. Where one isn't held so, the answer is `Need`; want of memory may come at any time.
 ///
-/// The request is a sound one to delete a node, and one that is built so far. No ids are drawn.
+/// The request is a sound one to delete a node, by the superuser, without conditions and a lease id. No ids are drawn.
 pub fn eval_delete<V: View>(
     alloc: Global,
     view: &mut V,
@@ -47,7 +46,7 @@ pub fn eval_delete<V: View>(
 ) -> Result<Draft, EvalStop>
     requires operation { IsOfDelete request.now.op }
     requires sound { IsSound request.now }
-    requires built { IsBuilt request.now }
+    requires plain { IsPlain request.now }
     ensures held { V.held view.new ≡ V.held view.old }
     ensures over { V.over view.new ≡ V.over view.old }
     ensures grows { Grows (V.shown view.old) (V.shown view.new) }
@@ -76,7 +75,7 @@ fn delete<V: View>(
     requires operation { request.now.op ≡ op.Delete path.now recursive }
     requires caller { request.now.caller ≡ Some caller.now }
     requires sound { IsSound request.now }
-    requires built { HasBuiltHeaders request.now }
+    requires plain { IsPlain request.now }
     ensures held { V.held view.new ≡ V.held view.old }
     ensures over { V.over view.new ≡ V.over view.old }
     ensures grows { Grows (V.shown view.old) (V.shown view.new) }
@@ -119,7 +118,7 @@ fn delete_in<V: View>(
 ) -> Result<Draft, EvalStop>
     requires operation { request.now.op ≡ op.Delete path.now recursive }
     requires sound { IsSound request.now }
-    requires built { HasBuiltHeaders request.now }
+    requires plain { IsPlain request.now }
     requires parent { IsAtParent (V.held view.old) (V.shown view.old) path.now ids base node.now }
     ensures held { V.held view.new ≡ V.held view.old }
     ensures over { V.over view.new ≡ V.over view.old }
@@ -165,7 +164,7 @@ fn delete_node<V: View>(
 ) -> Result<Draft, EvalStop>
     requires operation { request.now.op ≡ op.Delete path.now recursive }
     requires sound { IsSound request.now }
-    requires built { HasBuiltHeaders request.now }
+    requires plain { IsPlain request.now }
     requires target { IsTarget (V.held view.old) (V.shown view.old) path.now node.now target }
     ensures held { V.held view.new ≡ V.held view.old }
     ensures over { V.over view.new ≡ V.over view.old }
@@ -215,7 +214,7 @@ fn clear<V: View>(
 ) -> Result<Draft, EvalStop>
     requires operation { request.now.op ≡ op.Delete path.now true }
     requires sound { IsSound request.now }
-    requires built { HasBuiltHeaders request.now }
+    requires plain { IsPlain request.now }
     requires target { IsTarget (V.held view.old) (V.shown view.old) path.now node.now target }
     requires free { is_leased node.now moment ≡ false }
     ensures held { V.held view.new ≡ V.held view.old }

@@ -15,7 +15,7 @@ remove-requires-clause-removal g c =
       name = c.args.target.name;
       id = c.args.target.id;
     }) c.in-Ok.taken.items) (sym c.collect.ensures.held)
-    (all_below c.args.request.now c.args.path.now true c.requires.operation c.requires.built (g.V.View.held c.args.view.now) (g.V.View.shown c.args.view.now) (g.V.View.shown c.collect.new.view) c.args.node.now c.args.target
+    (all_below c.args.request.now c.args.path.now true c.requires.operation c.requires.plain (g.V.View.held c.args.view.now) (g.V.View.shown c.args.view.now) (g.V.View.shown c.collect.new.view) c.args.node.now c.args.target
     c.collect.ensures.grows c.requires.target c.args.moment c.requires.free refl _ c.in-Ok.taken.items c.requires.sound c.in-Ok.ensures.collected c.in-Ok.ensures.looked
     (c.in_ok-extend_from_slice-in-Ok.ensures.items ∙ ap (λ l. c.args.target.reads.items ++ l) c.as_slice.ensures.value) refl refl refl)
 
@@ -26,5 +26,5 @@ returns-in_ok-extend_from_slice-in-Ok-clause-evaluated g c = λ fresh.
 pub returns-in-Err-clause-evaluated : goal.returns-in-Err-clause-evaluated
 returns-in-Err-clause-evaluated g c = λ fresh.
     stopped_by (g.V.View.held c.args.view.now) (g.V.View.shown c.collect.new.view) c.args.request.now c.args.moment fresh c.in-Err.stop (λ n e.
-    below_needed c.args.request.now c.args.path.now true c.requires.operation c.requires.built (g.V.View.held c.args.view.now) (g.V.View.shown c.args.view.now) (g.V.View.shown c.collect.new.view) c.args.node.now c.args.target
+    below_needed c.args.request.now c.args.path.now true c.requires.operation c.requires.plain (g.V.View.held c.args.view.now) (g.V.View.shown c.args.view.now) (g.V.View.shown c.collect.new.view) c.args.node.now c.args.target
     c.collect.ensures.grows c.requires.target c.args.moment c.requires.free refl fresh n (c.in-Err.ensures.need n (ap Err e)))

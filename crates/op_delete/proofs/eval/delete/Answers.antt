@@ -9,7 +9,7 @@ use Rattle.op_delete.proofs.eval.delete.Goals as goal
 pub delete_in-requires-clause-parent : goal.delete_in-requires-clause-parent
 delete_in-requires-clause-parent g c = record {
   visited = reached_visit (g.V.View.shown c.visit.new.view) c.args.caller.now c.args.path.now c.in-Ok.field-0
-      (caller_is c.args.request.now c.args.path.now c.args.recursive c.requires.operation c.requires.built c.args.caller.now c.requires.caller) c.in-Reached.is c.in-Ok.ensures.visited;
+      (caller_is c.args.request.now c.args.path.now c.args.recursive c.requires.operation c.requires.plain c.args.caller.now c.requires.caller) c.in-Reached.is c.in-Ok.ensures.visited;
   looked = subst (λ h. AreLookedAt h (g.V.View.shown c.visit.new.view) c.in-Ok.field-0.ids) (sym c.visit.ensures.held) c.in-Ok.ensures.looked;
 }
 
@@ -26,10 +26,10 @@ returns-in-Ok g c = record {
   over = c.visit.ensures.over;
   grows = c.visit.ensures.grows;
   evaluated = λ fresh.
-      stopped_draft c.args.request.now c.args.path.now c.args.recursive c.requires.operation c.requires.built (g.V.View.held c.args.view.now) (g.V.View.shown c.visit.new.view) c.args.moment fresh c.in-Ok.field-0
+      stopped_draft c.args.request.now c.args.path.now c.args.recursive c.requires.operation c.requires.plain (g.V.View.held c.args.view.now) (g.V.View.shown c.visit.new.view) c.args.moment fresh c.in-Ok.field-0
       c.in-Ok.field-0.end c.into_items.result.items c.in_ok-answered-in_default.field-0 c.requires.sound
       (subst (λ k. IsVisitFor (g.V.View.shown c.visit.new.view) k c.args.path.now c.in-Ok.field-0)
-      (caller_is c.args.request.now c.args.path.now c.args.recursive c.requires.operation c.requires.built c.args.caller.now c.requires.caller) c.in-Ok.ensures.visited)
+      (caller_is c.args.request.now c.args.path.now c.args.recursive c.requires.operation c.requires.plain c.args.caller.now c.requires.caller) c.in-Ok.ensures.visited)
       c.in-Ok.ensures.looked refl c.in_default.not-Reached c.into_items.ensures
       (subst (λ r. IsAnswered c.args.request.now.close r c.into_items.result.items c.in_ok-answered-in_default.field-0) c.stop_reply.ensures c.in_ok-answered-in_default.ensures);
 }
@@ -37,6 +37,6 @@ returns-in-Ok g c = record {
 pub returns-clause-evaluated : goal.returns-clause-evaluated
 returns-clause-evaluated g c = λ fresh.
     stopped_by (g.V.View.held c.args.view.now) (g.V.View.shown c.visit.new.view) c.args.request.now c.args.moment fresh c.in-Err.stop (λ n e.
-    way_needed c.args.request.now c.args.path.now c.args.recursive c.requires.operation c.requires.built (g.V.View.held c.args.view.now) (g.V.View.shown c.visit.new.view) c.args.moment fresh n
+    way_needed c.args.request.now c.args.path.now c.args.recursive c.requires.operation c.requires.plain (g.V.View.held c.args.view.now) (g.V.View.shown c.visit.new.view) c.args.moment fresh n
     (subst (λ k. IsOnTheWay (g.V.View.held c.args.view.now) (g.V.View.shown c.visit.new.view) k c.args.path.now n)
-    (caller_is c.args.request.now c.args.path.now c.args.recursive c.requires.operation c.requires.built c.args.caller.now c.requires.caller) (c.in-Err.ensures.need n (ap Err e))))
+    (caller_is c.args.request.now c.args.path.now c.args.recursive c.requires.operation c.requires.plain c.args.caller.now c.requires.caller) (c.in-Err.ensures.need n (ap Err e))))

@@ -13,7 +13,7 @@ look_below-requires g c = record {
   known = child_known (g.V.View.held c.args.view.now) (g.V.View.shown c.args.view.now) (g.V.View.shown c.args.view.now) the_superuser c.args.path.now c.in_ok-name.name (visit_to c.args.ids c.args.base c.args.node.now)
       (λ stripe part e. e) c.requires.parent.visited c.requires.parent.looked refl
       (path_named c.args.path.now c.as_slice-names.result.now (length c.as_slice-names.result.now) c.index-names-names.result c.in_ok-name.name
-      (some_path c.args.request.now c.args.path.now c.args.recursive c.requires.operation c.requires.built c.requires.sound) (c.as_slice-names.ensures.value ∙ c.in_ok-parts.ensures) refl c.index-names-names.is c.in_ok-name.ensures);
+      (some_path c.args.request.now c.args.path.now c.args.recursive c.requires.operation c.requires.plain c.requires.sound) (c.as_slice-names.ensures.value ∙ c.in_ok-parts.ensures) refl c.index-names-names.is c.in_ok-name.ensures);
 }
 
 pub delete_node-requires-clause-target : goal.delete_node-requires-clause-target
@@ -26,7 +26,7 @@ delete_node-requires-clause-target g c =
     })) (sym c.look_below.ensures.held)
     (target_found (g.V.View.held c.args.view.now) (g.V.View.shown c.args.view.now) (g.V.View.shown c.look_below.new.view) c.args.path.now c.args.ids c.args.base c.args.node.now c.in_ok-name.name c.requires.parent c.look_below.ensures.grows
     (path_named c.args.path.now c.as_slice-names.result.now (length c.as_slice-names.result.now) c.index-names-names.result c.in_ok-name.name
-    (some_path c.args.request.now c.args.path.now c.args.recursive c.requires.operation c.requires.built c.requires.sound) (c.as_slice-names.ensures.value ∙ c.in_ok-parts.ensures) refl c.index-names-names.is c.in_ok-name.ensures)
+    (some_path c.args.request.now c.args.path.now c.args.recursive c.requires.operation c.requires.plain c.requires.sound) (c.as_slice-names.ensures.value ∙ c.in_ok-parts.ensures) refl c.index-names-names.is c.in_ok-name.ensures)
     c.in-Ok.field-0
     (subst (λ l. IsLook (g.V.View.held c.args.view.now) (g.V.View.shown c.look_below.new.view) l c.args.node.now c.in_ok-name.name c.in-Ok.field-0) c.into_items.ensures c.in-Ok.ensures.look)
     c.in-Node.node c.in-Node.is
@@ -45,14 +45,14 @@ returns-in-Ok g c =
     let finds = look_finds (g.V.View.held c.args.view.now) (g.V.View.shown c.args.view.now) (g.V.View.shown c.look_below.new.view) the_superuser c.args.path.now c.in_ok-name.name (visit_to c.args.ids c.args.base c.args.node.now)
     c.look_below.ensures.grows c.requires.parent.visited c.requires.parent.looked refl
     (path_named c.args.path.now c.as_slice-names.result.now (length c.as_slice-names.result.now) c.index-names-names.result c.in_ok-name.name
-    (some_path c.args.request.now c.args.path.now c.args.recursive c.requires.operation c.requires.built c.requires.sound) (c.as_slice-names.ensures.value ∙ c.in_ok-parts.ensures) refl c.index-names-names.is c.in_ok-name.ensures)
+    (some_path c.args.request.now c.args.path.now c.args.recursive c.requires.operation c.requires.plain c.requires.sound) (c.as_slice-names.ensures.value ∙ c.in_ok-parts.ensures) refl c.index-names-names.is c.in_ok-name.ensures)
     c.in-Ok.field-0 look in
     record {
       held = c.look_below.ensures.held;
       over = c.look_below.ensures.over;
       grows = c.look_below.ensures.grows;
       evaluated = λ fresh.
-          missing_draft c.args.request.now c.args.path.now c.args.recursive c.requires.operation c.requires.built (g.V.View.held c.args.view.now) (g.V.View.shown c.look_below.new.view) c.args.moment fresh c.in-Ok.field-0
+          missing_draft c.args.request.now c.args.path.now c.args.recursive c.requires.operation c.requires.plain (g.V.View.held c.args.view.now) (g.V.View.shown c.look_below.new.view) c.args.moment fresh c.in-Ok.field-0
           c.args.ids c.args.base c.args.node.now c.in_ok-answered-in_default.field-0 c.requires.sound
           (visited_later (g.V.View.shown c.args.view.now) (g.V.View.shown c.look_below.new.view) c.args.path.now (visit_to c.args.ids c.args.base c.args.node.now) c.look_below.ensures.grows c.requires.parent.visited)
           finds.0 finds.1
@@ -63,11 +63,11 @@ returns-in-Ok g c =
 pub returns-clause-evaluated : goal.returns-clause-evaluated
 returns-clause-evaluated g c = λ fresh.
     stopped_by (g.V.View.held c.args.view.now) (g.V.View.shown c.look_below.new.view) c.args.request.now c.args.moment fresh c.in-Err.stop (λ n e.
-    node_needed c.args.request.now c.args.path.now c.args.recursive c.requires.operation c.requires.built (g.V.View.held c.args.view.now) (g.V.View.shown c.look_below.new.view) c.args.moment fresh n
+    node_needed c.args.request.now c.args.path.now c.args.recursive c.requires.operation c.requires.plain (g.V.View.held c.args.view.now) (g.V.View.shown c.look_below.new.view) c.args.moment fresh n
     c.args.ids c.args.base c.args.node.now c.requires.sound
     (visited_later (g.V.View.shown c.args.view.now) (g.V.View.shown c.look_below.new.view) c.args.path.now (visit_to c.args.ids c.args.base c.args.node.now) c.look_below.ensures.grows c.requires.parent.visited)
     (child_needs (g.V.View.held c.args.view.now) (g.V.View.shown c.args.view.now) (g.V.View.shown c.look_below.new.view) the_superuser c.args.path.now c.in_ok-name.name (visit_to c.args.ids c.args.base c.args.node.now)
     c.look_below.ensures.grows c.requires.parent.visited c.requires.parent.looked refl
     (path_named c.args.path.now c.as_slice-names.result.now (length c.as_slice-names.result.now) c.index-names-names.result c.in_ok-name.name
-    (some_path c.args.request.now c.args.path.now c.args.recursive c.requires.operation c.requires.built c.requires.sound) (c.as_slice-names.ensures.value ∙ c.in_ok-parts.ensures) refl c.index-names-names.is c.in_ok-name.ensures)
+    (some_path c.args.request.now c.args.path.now c.args.recursive c.requires.operation c.requires.plain c.requires.sound) (c.as_slice-names.ensures.value ∙ c.in_ok-parts.ensures) refl c.index-names-names.is c.in_ok-name.ensures)
     n (c.in-Err.ensures.need n (ap Err e))))

@@ -27,13 +27,14 @@ use Rattle.namespace_model.specs.Delete.{not_clearable, gone, cleared, delete_no
 use Rattle.namespace_model.specs.Effects.{Put}
 use Rattle.namespace_model.specs.GetProperties.{length_fields, user_fields, access_fields, properties_shown, properties_of, get_properties}
 use Rattle.namespace_model.specs.Nodes.{Node, Content, directory, file, is_directory, has_kind, kind_of}
-use Rattle.namespace_model.specs.Outcomes.{Outcome, answered, refused, reading, unless, noted, within}
-use Rattle.namespace_model.specs.Refusals.{caller_of, code_of_fault, denied_by, deny_unless, refuse_if, unmet_for_change, unmet_for_look, refused_by_lease, or_else, first_refusal, lacks, is_guarded, is_no_superuser, is_taken, is_unmet, is_unmet_look, is_unmet_without, lease_refuses}
+use Rattle.namespace_model.specs.Outcomes.{Outcome, answered, refused, reading, unless, noted}
+use Rattle.namespace_model.specs.Refusals.{caller_of, code_of_fault, denied_by, deny_unless, refuse_if, unmet_for_change, unmet_for_look, refused_by_lease, or_else, first_refusal, lacks, is_guarded, is_no_superuser, exists_already, is_unmet, is_unmet_look, is_unmet_without, lease_refuses}
 use Rattle.namespace_model.specs.Replies.{success, stamp_fields, lease_fields}
 use Rattle.namespace_model.specs.Sound.{IsSound, IsOperation}
 use Rattle.namespace_model.specs.Step.{acts, outcome}
-use Rattle.namespace_model.specs.Trees.{Path, Tree, at, parent, is_bare, children, subtree}
-use Rattle.namespace_model.specs.Walks.{way, entered, passed, walk, missing_below, missing_code}
+use Rattle.namespace_model.specs.Trees.{Path, Tree, at, node_at, parent, is_bare, children, subtree}
+use Rattle.namespace_model.specs.Walks.{ended, hand_on, walk, walk_or, missing_below, missing_code}
+use Rattle.namespace_model.specs.Ways.{Way, reached, missing, blocked, closed, way_of, read_on}
 use Rattle.reply_text.specs.ReplyText.{CanSpell}
 use Rattle.reply_text.proofs.Spellable.{AreClosed, closed_none, closed_more, closed_append, closed_properties, closed_lease, closing_spelled, refusal_spelled, not_modified_spelled, denial_spelled, stamped_spelled, shown_spelled, plain_spelled}
 use Rattle.engine.specs.Solos.{HasDates}
@@ -104,37 +105,28 @@ clearable_fine t caller p x = by_test (is_directory x && not (is_bare t p))
 
 -- ---- the way, and the node
 
-passed_fine : (caller : Caller) (blocked : Code) (p : Path) (x : Node) (after : Outcome) → IsFine after → IsFine (passed caller blocked p x after)
-passed_fine caller blocked p x after fine = by_kind (is_directory x)
-  where
-    by_kind : (b : Bool) → IsFine (cond b (unless (lacks caller 1 p x) after) (refused blocked))
-    by_kind true = unless_fine (lacks caller 1 p x) after (denied_fine p 1 (access_check x.acl.access x.owner x.group caller 1)) fine
-    by_kind false = refused_fine blocked
+ended_fine : (lost : Path → Outcome) (c : Code) (after : Outcome) (w : Way) → ((d : Path) → IsFine (lost d)) → IsFine after → IsFine (ended lost c after w)
+ended_fine lost c after reached missed fine = fine
+ended_fine lost c after (missing d) missed fine = missed d
+ended_fine lost c after (blocked p) missed fine = refused_fine c
+ended_fine lost c after (closed p r) missed fine = answered_fine _ (denial_spelled r.rule p 1 r.have)
 
-entered_fine : (caller : Caller) (missing : Outcome) (blocked : Code) (o : Option Node) (p : Path) (after : Outcome) → IsFine missing → IsFine after → IsFine (entered caller missing blocked o p after)
-entered_fine caller missing blocked None p after lost fine = lost
-entered_fine caller missing blocked (Some x) p after lost fine = reading_fine (p ∷ []) _ (passed_fine caller blocked p x after fine)
-
-way_fine : (t : Tree) (caller : Caller) (missing : Path → Outcome) (blocked : Code) (done names : Path) (after : Outcome) → ((d : Path) → IsFine (missing d)) → IsFine after
-    → IsFine (way t caller missing blocked done names after)
-way_fine t caller missing blocked done [] after lost fine = fine
-way_fine t caller missing blocked done (n ∷ names) after lost fine =
-    entered_fine caller (missing done) blocked (at t (done ++ n ∷ [])) (done ++ n ∷ []) _ (lost done) (way_fine t caller missing blocked (done ++ n ∷ []) names after lost fine)
+walk_or_fine : (t : Tree) (caller : Caller) (lost : Path → Node → Outcome) (c : Code) (p : Path) (next : Node → Outcome) → ((d : Path) (x : Node) → IsFine (lost d x))
+    → ((x : Node) → IsFine (next x)) → IsFine (walk_or t caller lost c p next)
+walk_or_fine t caller lost c p next missed fine =
+    reading_fine (read_on t caller p) _
+    (ended_fine (λ d. hand_on t d (lost d)) c (hand_on t (parent p) next) (way_of t caller p) (λ d. missed d (node_at t d)) (fine (node_at t (parent p))))
 
 below_fine : (c : Code) (d : Path) → IsFine (missing_below c d)
 below_fine c [] = refused_fine code.FilesystemNotFound
 below_fine c (fs ∷ names) = refused_fine c
 
-walk_fine : (t : Tree) (caller : Caller) (c : Code) (p : Path) (after : Outcome) → IsFine after → IsFine (walk t caller c p after)
-walk_fine t caller c p after fine = reading_fine ([] ∷ []) _ (way_fine t caller (missing_below c) c [] (parent p) after (below_fine c) fine)
+walk_fine : (t : Tree) (caller : Caller) (c : Code) (p : Path) (next : Node → Outcome) → ((x : Node) → IsFine (next x)) → IsFine (walk t caller c p next)
+walk_fine t caller c p next fine = walk_or_fine t caller (λ d dir. missing_below c d) c p next (λ d x. below_fine c d) fine
 
 noted_fine : (o : Option Node) (p : Path) (none : Outcome) (some : Node → Outcome) → IsFine none → ((x : Node) → o ≡ Some x → IsFine (some x)) → IsFine (noted o p none some)
 noted_fine None p none some lost fine = lost
 noted_fine (Some x) p none some lost fine = reading_fine (p ∷ []) _ (fine x refl)
-
-within_fine : (o : Option Node) (none : Outcome) (some : Node → Outcome) → IsFine none → ((x : Node) → IsFine (some x)) → IsFine (within o none some)
-within_fine None none some lost fine = lost
-within_fine (Some x) none some lost fine = fine x
 
 -- ---- the operations
 
@@ -166,7 +158,7 @@ module _ (t : Tree) (e : Entry) (timely : e.moment ≤ LAST_MOMENT) where
   over_fine : (m : Making) → length m.path ≤ 60 → (dir y : Node) → IsFine (create_over t e m dir y)
   over_fine m short dir y =
       unless_fine (is_guarded (caller_of e) dir m.path y) _ (deny_fine (sticky_lets dir.sticky dir.owner y.owner (caller_of e)) rule.Sticky m.path)
-      (unless_fine (is_taken e) _ (refuse_fine (option_map_or (λ tags. tags.any) e.request.cond.none false) code.PathAlreadyExists)
+      (unless_fine (exists_already e) _ (refuse_fine (option_map_or (λ tags. tags.any) e.request.cond.none false) code.PathAlreadyExists)
       (unless_fine (is_unmet e y) _ (change_fine (conditions_of e.request.cond (Some (y.number, y.moment))))
       (unless_fine (refuse_if (not (has_kind m.kind y)) code.ResourceTypeMismatch) _ (refuse_fine (not (has_kind m.kind y)) code.ResourceTypeMismatch)
       (unless_fine (refuse_if (is_directory y && not (is_bare t m.path)) code.DirectoryNotEmpty) _ (refuse_fine (is_directory y && not (is_bare t m.path)) code.DirectoryNotEmpty)
@@ -181,16 +173,13 @@ module _ (t : Tree) (e : Entry) (timely : e.moment ≤ LAST_MOMENT) where
   under_fine m short base x =
       unless_fine (lacks (caller_of e) 3 base x) _ (denied_fine base 3 (access_check x.acl.access x.owner x.group (caller_of e) 3)) (new_fine m short base x)
 
-  from_fine : (m : Making) → length m.path ≤ 60 → (d : Path) → IsFine (create_from t e m d)
-  from_fine m short [] = refused_fine code.FilesystemNotFound
-  from_fine m short (fs ∷ names) = within_fine (at t (fs ∷ names)) (refused code.PathNotFound) (create_under e m (fs ∷ names)) (refused_fine code.PathNotFound) (under_fine m short (fs ∷ names))
+  from_fine : (m : Making) → length m.path ≤ 60 → (d : Path) (x : Node) → IsFine (create_from e m d x)
+  from_fine m short [] x = refused_fine code.FilesystemNotFound
+  from_fine m short (fs ∷ names) x = under_fine m short (fs ∷ names) x
 
   create_fine : (m : Making) → length m.path ≤ 60 → IsFine (create t e m)
   unfolding create
-  create_fine m short =
-      reading_fine ([] ∷ []) _
-      (way_fine t (caller_of e) (create_from t e m) code.ResourceTypeMismatch [] (parent m.path) (within (at t (parent m.path)) (refused code.PathNotFound) (create_in t e m)) (from_fine m short)
-      (within_fine (at t (parent m.path)) (refused code.PathNotFound) (create_in t e m) (refused_fine code.PathNotFound) (in_fine m short)))
+  create_fine m short = walk_or_fine t (caller_of e) (create_from e m) code.ResourceTypeMismatch m.path (create_in t e m) (from_fine m short) (in_fine m short)
 
   closed_user : (status : Bool) (x : Node) → AreClosed (user_fields status x)
   closed_user true x = closed_none
@@ -212,7 +201,7 @@ module _ (t : Tree) (e : Entry) (timely : e.moment ≤ LAST_MOMENT) where
   unfolding get_properties
   properties_fine p status dates =
       walk_fine t (caller_of e) code.PathNotFound p _
-      (noted_fine (at t p) p (refused (missing_code p code.PathNotFound)) (properties_of e status) (refused_fine (missing_code p code.PathNotFound))
+      (λ dir. noted_fine (at t p) p (refused (missing_code p code.PathNotFound)) (properties_of e status) (refused_fine (missing_code p code.PathNotFound))
       (λ x is. unless_fine (is_unmet_look e x) (properties_shown e status x) (look_fine (conditions_of e.request.cond (Some (x.number, x.moment)))) (shown_fine status x (dates p x is))))
 
   gone_fine : (dir : Path) (ps : List Path) → IsFine (gone dir ps)
@@ -234,9 +223,8 @@ module _ (t : Tree) (e : Entry) (timely : e.moment ≤ LAST_MOMENT) where
   unfolding delete
   delete_fine p recursive =
       walk_fine t (caller_of e) code.PathNotFound p _
-      (within_fine (at t (parent p)) (refused code.PathNotFound) (delete_in t e p recursive) (refused_fine code.PathNotFound)
       (λ dir. unless_fine (lacks (caller_of e) 3 (parent p) dir) _ (denied_fine (parent p) 3 (access_check dir.acl.access dir.owner dir.group (caller_of e) 3))
-      (noted_fine (at t p) p (refused (missing_code p code.PathNotFound)) (delete_node t e p recursive dir) (refused_fine (missing_code p code.PathNotFound)) (λ x is. node_fine p recursive dir x))))
+      (noted_fine (at t p) p (refused (missing_code p code.PathNotFound)) (delete_node t e p recursive dir) (refused_fine (missing_code p code.PathNotFound)) (λ x is. node_fine p recursive dir x)))
 
   acts_fine : (o : Op) (body : ℕ) → IsOperation o body → IsBuiltOperation o → HasDates t → IsFine (acts t e o)
   acts_fine (op.CreateFilesystem path props) body sound built dates = filesystem_fine _ props

@@ -8,13 +8,13 @@ use Rattle.std.specs.Cmp.Lexicographic.{nat_list_cmp_total}
 use Rattle.std.specs.FinMap as fin
 use Rattle.std.specs.FinMap.{nat_cmp-IsAntisymmetric}
 use Rattle.file_data.specs.declared.fault.DataFault.{DataFault}
-use Rattle.file_data.specs.FileRecord.{FileRecord, stage_answer, staged_with, flush_answer, flushed}
+use Rattle.file_data.specs.FileRecord.{file_of, FileRecord, stage_answer, staged_with, flush_answer, flushed}
 use Rattle.inode_tree.specs.declared.change.Edit.TheVariants as edit
 use Rattle.inode_tree.specs.declared.change.Change.{Change}
 use Rattle.inode_tree.specs.declared.change.Change.TheVariants as change
 use Rattle.inode_tree.specs.ChildLists.{name_cmp}
 use Rattle.inode_tree.specs.Inodes.{Links, BareContent, directory, file, BareInode}
-use Rattle.inode_tree.specs.Changes.{Part, data_of, where_allowed, asked_by, id_of, is_own, node_after, changed, linked, unlinked, staged_in, flushed_in}
+use Rattle.inode_tree.specs.Changes.{Part, where_allowed, asked_by, id_of, is_own, node_after, changed, linked, unlinked, staged_in, flushed_in}
 use Rattle.inode_tree.specs.Idle.{Lacks, IsFileContent, IsIdleStage, IsIdleFlush, IsIdle, IsIdleAt, IdleChangesNothing, OthersStay, StripesAreApart}
 use Rattle.inode_tree.proofs.MapLemmas.{name_cmp-IsAntisymmetric}
 use Rattle.inode_tree.proofs.DraftLemmas.{get-with_node, equal_where}
@@ -51,15 +51,15 @@ idle_stage : (position : ℕ) (piece : List ℕ) (content : BareContent) → IsI
 idle_stage position piece (directory links) h = refl
 idle_stage position piece (file bytes staged) (inl none) = rw none refl
 idle_stage position piece (file bytes staged) (inr refused) =
-    elim (length piece == 0) as (λ b. cond b (file bytes staged) (where_allowed (stage_answer (data_of bytes staged) position piece) (staged_with (data_of bytes staged) position piece) (file bytes staged)) ≡ file bytes staged) [
+    elim (length piece == 0) as (λ b. cond b (file bytes staged) (where_allowed (stage_answer (file_of bytes staged) position piece) (staged_with (file_of bytes staged) position piece) (file bytes staged)) ≡ file bytes staged) [
       | true ↦ refl
-      | false ↦ where_refused (stage_answer (data_of bytes staged) position piece) (staged_with (data_of bytes staged) position piece) (file bytes staged) refused
+      | false ↦ where_refused (stage_answer (file_of bytes staged) position piece) (staged_with (file_of bytes staged) position piece) (file bytes staged) refused
     ]
 
 idle_flush : (position : ℕ) (retain : Bool) (content : BareContent) → IsIdleFlush position content → flushed_in position retain content ≡ content
 idle_flush position retain (directory links) h = refl
 idle_flush position retain (file bytes staged) refused =
-    where_refused (flush_answer (data_of bytes staged) position) (flushed (data_of bytes staged) position retain) (file bytes staged) refused
+    where_refused (flush_answer (file_of bytes staged) position) (flushed (file_of bytes staged) position retain) (file bytes staged) refused
 
 idle_link : (name : List ℕ) (child : ℕ) (content : BareContent) → IsFileContent content → linked name child content ≡ content
 idle_link name child (directory links) h = absurd h

@@ -6,7 +6,7 @@ use Rattle.std.specs.FinMap.{FinMap}
 use Rattle.namespace_model.specs.declared.op.Kind.{Kind}
 use Rattle.namespace_model.specs.declared.op.Kind.TheVariants.{File, Directory}
 use Rattle.file_data.specs.declared.fault.DataFault.{DataFault}
-use Rattle.file_data.specs.FileRecord.{FileRecord, stage_answer, staged_with, flush_answer, flushed}
+use Rattle.file_data.specs.FileRecord.{FileRecord, file_of, stage_answer, staged_with, flush_answer, flushed}
 use Rattle.inode_tree.specs.declared.meta.Meta.{Meta}
 use Rattle.inode_tree.specs.declared.change.Edit.{Edit}
 use Rattle.inode_tree.specs.declared.change.Edit.TheVariants as edit
@@ -17,10 +17,6 @@ use Rattle.inode_tree.specs.Inodes.{BareContent, directory, file, BareInode, bar
 -- the inodes that a stripe keeps, by their ids
 abbrev pub Part : Type 0
 Part = FinMap nat_cmp BareInode
-
--- a file's data without room
-abbrev pub data_of : List ℕ → List (ℕ × List ℕ) → FileRecord
-data_of bytes staged = record { committed = bytes; staged = staged; stage_room = 0; flush_room = 0 }
 
 -- a file after an allowed call, and else as it was
 abbrev pub where_allowed : Result Unit DataFault → FileRecord → BareContent → BareContent
@@ -43,13 +39,13 @@ abbrev pub staged_in : ℕ → List ℕ → BareContent → BareContent
 staged_in position piece (directory links) = directory links
 staged_in position piece (file bytes staged) =
     if length piece == 0 then file bytes staged
-    else where_allowed (stage_answer (data_of bytes staged) position piece) (staged_with (data_of bytes staged) position piece) (file bytes staged)
+    else where_allowed (stage_answer (file_of bytes staged) position piece) (staged_with (file_of bytes staged) position piece) (file bytes staged)
 
 -- a flush that is refused changes nothing
 abbrev pub flushed_in : ℕ → Bool → BareContent → BareContent
 flushed_in position retain (directory links) = directory links
 flushed_in position retain (file bytes staged) =
-    where_allowed (flush_answer (data_of bytes staged) position) (flushed (data_of bytes staged) position retain) (file bytes staged)
+    where_allowed (flush_answer (file_of bytes staged) position) (flushed (file_of bytes staged) position retain) (file bytes staged)
 
 -- ---- what becomes of an inode
 

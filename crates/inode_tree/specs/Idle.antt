@@ -1,13 +1,13 @@
 -- Changes that change nothing, by what stands at their id.
 use Rattle.std.specs.Prelude.{◌≡◌, ◌≢◌, ◌⊎◌, ℕ, ◌%◌, false, List, [], Option, Some, None, IsErr}
 use Rattle.std.specs.FinMap as fin
-use Rattle.file_data.specs.FileRecord.{stage_answer, flush_answer}
+use Rattle.file_data.specs.FileRecord.{file_of, stage_answer, flush_answer}
 use Rattle.inode_tree.specs.declared.change.Edit.{Edit}
 use Rattle.inode_tree.specs.declared.change.Edit.TheVariants as edit
 use Rattle.inode_tree.specs.declared.change.Change.{Change}
 use Rattle.inode_tree.specs.declared.change.Change.TheVariants as change
 use Rattle.inode_tree.specs.Inodes.{BareContent, directory, file, BareInode}
-use Rattle.inode_tree.specs.Changes.{Part, data_of, is_meta_of, id_of, changed, applied}
+use Rattle.inode_tree.specs.Changes.{Part, is_meta_of, id_of, changed, applied}
 
 -- a file has no names, and a directory lacks those that aren't there
 abbrev pub Lacks : List ℕ → BareContent → Type 0
@@ -21,11 +21,11 @@ IsFileContent (file bytes staged) = Unit {0}
 -- a stage or flush at a directory, of an empty piece, or one that is refused
 abbrev pub IsIdleStage : ℕ → List ℕ → BareContent → Type 0
 IsIdleStage position piece (directory links) = Unit {0}
-IsIdleStage position piece (file bytes staged) = (piece ≡ []) ⊎ IsErr (stage_answer (data_of bytes staged) position piece)
+IsIdleStage position piece (file bytes staged) = (piece ≡ []) ⊎ IsErr (stage_answer (file_of bytes staged) position piece)
 
 abbrev pub IsIdleFlush : ℕ → BareContent → Type 0
 IsIdleFlush position (directory links) = Unit {0}
-IsIdleFlush position (file bytes staged) = IsErr (flush_answer (data_of bytes staged) position)
+IsIdleFlush position (file bytes staged) = IsErr (flush_answer (file_of bytes staged) position)
 
 abbrev pub IsIdleEdit : Edit → BareContent → Type 0
 IsIdleEdit (edit.Meta meta asks) content = is_meta_of content meta ≡ false

@@ -4,6 +4,7 @@ use std::test::Fail;
 
 // What is done to a file: a piece is appended at a position, without or with a flush, or what is below a position is
 // flushed, and what is above is kept or not.
+#[derive(Clone, Copy)]
 enum Step<'a> {
     Append(u64, &'a [u8]),
     AppendFlush(u64, &'a [u8]),
@@ -125,7 +126,10 @@ fn pieces_are_flushed_in_the_order_of_their_positions(rt: HostRuntime) -> Result
         ],
     )?;
     assert_eq!(rt; answer, Ok(()));
-    assert_eq!(rt; whole(rt.alloc(), &file)?.as_slice(), b"helloworld".as_slice());
+    assert_eq!(rt;
+        whole(rt.alloc(), &file)?.as_slice(),
+        b"helloworld".as_slice()
+    );
     Ok(())
 }
 
@@ -159,8 +163,14 @@ fn fault_of(alloc: Global, list: &[Step<'_>]) -> Result<Result<(), DataFault>, A
 fn each_trouble_of_a_flush_is_named(rt: HostRuntime) -> Result<(), Fail> {
     let abcd = Step::Append(2, b"abcd".as_slice());
     let xy = Step::Append(0, b"xy".as_slice());
-    assert_eq!(rt; fault_of(rt.alloc(), &[abcd, Step::Flush(6, false)])?, Err(DataFault::Gap(0)));
-    assert_eq!(rt; fault_of(rt.alloc(), &[xy, Step::Flush(1, false)])?, Err(DataFault::WrongPosition));
+    assert_eq!(rt;
+        fault_of(rt.alloc(), &[abcd, Step::Flush(6, false)])?,
+        Err(DataFault::Gap(0))
+    );
+    assert_eq!(rt;
+        fault_of(rt.alloc(), &[xy, Step::Flush(1, false)])?,
+        Err(DataFault::WrongPosition)
+    );
     Ok(())
 }
 
@@ -189,6 +199,17 @@ fn a_piece_replaces_another_at_its_position(rt: HostRuntime) -> Result<(), Fail>
     )?;
     assert_eq!(rt; answer, Ok(()));
     assert_eq!(rt; whole(rt.alloc(), &file)?.as_slice(), b"de".as_slice());
+    Ok(())
+}
+
+#[test]
+fn nothing_is_appended_below_the_length(rt: HostRuntime) -> Result<(), Fail> {
+    let list = [
+        Step::AppendFlush(0, b"ab".as_slice()),
+        Step::Append(1, b"x".as_slice()),
+    ];
+    assert_eq!(rt; fault_of(rt.alloc(), &list)?, Err(DataFault::BelowLength));
+    assert_eq!(rt; FileData::new(rt.alloc()).can_flush(0), Ok(()));
     Ok(())
 }
 
@@ -222,7 +243,10 @@ fn three_pieces_in_every_order(rt: HostRuntime) -> Result<(), Fail> {
             Step::Flush(13, false),
         ];
         let _answer = steps(alloc, &mut file, &list)?;
-        assert_eq!(rt; whole(alloc, &file)?.as_slice(), b"one two three".as_slice());
+        assert_eq!(rt;
+            whole(alloc, &file)?.as_slice(),
+            b"one two three".as_slice()
+        );
     }
     Ok(())
 }
@@ -236,7 +260,10 @@ fn a_read_goes_over_extents(rt: HostRuntime) -> Result<(), Fail> {
         Step::Flush(7, false),
     ];
     assert_eq!(rt; steps(rt.alloc(), &mut file, &list)?, Ok(()));
-    assert_eq!(rt; part(rt.alloc(), &file, 2, 3)?.as_slice(), b"cde".as_slice());
+    assert_eq!(rt;
+        part(rt.alloc(), &file, 2, 3)?.as_slice(),
+        b"cde".as_slice()
+    );
     Ok(())
 }
 
@@ -245,9 +272,18 @@ fn a_refused_append_with_flush_leaves_nothing(rt: HostRuntime) -> Result<(), Fai
     let mut file = FileData::new(rt.alloc());
     let hello = Step::AppendFlush(0, b"hello".as_slice());
     let list = [hello, Step::AppendFlush(7, b"!".as_slice())];
-    assert_eq!(rt; steps(rt.alloc(), &mut file, &list)?, Err(DataFault::Gap(5)));
-    let list = [Step::AppendFlush(5, b"ab".as_slice()), Step::Flush(8, false)];
-    assert_eq!(rt; steps(rt.alloc(), &mut file, &list)?, Err(DataFault::Gap(7)));
+    assert_eq!(rt;
+        steps(rt.alloc(), &mut file, &list)?,
+        Err(DataFault::Gap(5))
+    );
+    let list = [
+        Step::AppendFlush(5, b"ab".as_slice()),
+        Step::Flush(8, false),
+    ];
+    assert_eq!(rt;
+        steps(rt.alloc(), &mut file, &list)?,
+        Err(DataFault::Gap(7))
+    );
     assert_eq!(rt; whole(rt.alloc(), &file)?.as_slice(), b"helloab".as_slice());
     Ok(())
 }
@@ -256,7 +292,10 @@ fn a_refused_append_with_flush_leaves_nothing(rt: HostRuntime) -> Result<(), Fai
 fn three_hundred_appends_of_one_byte(rt: HostRuntime) -> Result<(), Fail> {
     let file = letters(rt.alloc(), 300, true)?;
     assert_eq!(rt; file.len(), 300);
-    assert_eq!(rt; part(rt.alloc(), &file, 258, 6)?.as_slice(), b"yzabcd".as_slice());
+    assert_eq!(rt;
+        part(rt.alloc(), &file, 258, 6)?.as_slice(),
+        b"yzabcd".as_slice()
+    );
     Ok(())
 }
 
@@ -264,6 +303,9 @@ fn three_hundred_appends_of_one_byte(rt: HostRuntime) -> Result<(), Fail> {
 fn three_hundred_appends_that_are_flushed_one_by_one(rt: HostRuntime) -> Result<(), Fail> {
     let file = letters(rt.alloc(), 300, false)?.copy(rt.alloc())?;
     assert_eq!(rt; file.len(), 300);
-    assert_eq!(rt; part(rt.alloc(), &file, 24, 4)?.as_slice(), b"yzab".as_slice());
+    assert_eq!(rt;
+        part(rt.alloc(), &file, 24, 4)?.as_slice(),
+        b"yzab".as_slice()
+    );
     Ok(())
 }

@@ -1,6 +1,6 @@
 // Tables of who may do what, and of what new nodes take from the directory above.
 use super::acl::{pair_of, say_pair};
-use super::say::{say, say_whether};
+use super::say::{say, say_whether, split};
 use acl_check::{base_pair, check, inherit, may_chgrp, may_chmod, may_chown, sticky_allows};
 use acl_text::{AclPair, AclStop, Id, ModeBits, Perm, read_id, read_permissions, read_umask};
 use namespace_model::{Caller, IdList, Kind};
@@ -23,14 +23,6 @@ pub fn answer(
         _ => return Ok(false),
     }
     Ok(true)
-}
-
-// The text up to the first space, and what stands behind it.
-fn split(text: &[u8]) -> (&[u8], &[u8]) {
-    match text.iter().position(|byte| *byte == b' ') {
-        Some(at) => (&text[..at], text[at..].trim_ascii()),
-        None => (text, b""),
-    }
 }
 
 // An id and the ids of groups, with spaces between.

@@ -19,6 +19,7 @@ pub fn answer(
         "written_lease_ids" => written_id(first, out)?,
         "lease_steps" => step(alloc, first, second, out)?,
         "lease_appends" => append(alloc, first, second, out)?,
+        "lease_messages" => message(alloc, first, out)?,
         _ => return Ok(false),
     }
     Ok(true)
@@ -78,7 +79,7 @@ fn say_after(
     }
 }
 
-// What an append leaves; none where it lacks an id that it needs.
+// What an append leaves, at the latest at the last moment; none where it lacks an id that it needs.
 fn after_append(
     lease: &Lease,
     moment: u64,
@@ -89,13 +90,32 @@ fn after_append(
         Some(given) => ("", given),
         None => rest.split_once(" by ").unwrap_or((rest, "")),
     };
-    let given = given.parse().ok();
     let action = append_of(word, rest)?;
-    let needs_id = matches!(action, AppendLease::AutoRenew | AppendLease::Release);
-    if LAST_MOMENT < moment || needs_id && given.is_none() {
-        return None;
+    let now = moment.min(LAST_MOMENT);
+    match given.parse().ok() {
+        Some(id) => Some(act_append(lease, &action, Some(id), now)),
+        None => after_append_without_id(lease, action, now),
     }
-    Some(act_append(lease, &action, given, moment))
+}
+
+fn after_append_without_id(
+    lease: &Lease,
+    action: AppendLease,
+    moment: u64,
+) -> Option<Result<Lease, LeaseFault>> {
+    let now = moment.min(LAST_MOMENT);
+    match action {
+        AppendLease::AutoRenew | AppendLease::Release => None,
+        AppendLease::Plain => Some(act_append(lease, &AppendLease::Plain, None, now)),
+        AppendLease::Acquire { proposed, secs } => {
+            let action = AppendLease::Acquire { proposed, secs };
+            Some(act_append(lease, &action, None, now))
+        }
+        AppendLease::AcquireRelease { proposed, secs } => {
+            let action = AppendLease::AcquireRelease { proposed, secs };
+            Some(act_append(lease, &action, None, now))
+        }
+    }
 }
 
 fn append_of(word: &str, rest: &str) -> Option<AppendLease> {
@@ -133,17 +153,13 @@ fn say_state(
     say(out, format!(in alloc; "{state:?}")?.as_str())
 }
 
-// What a write or an action leaves.
+// What a write or an action leaves, at the latest at the last moment.
 fn after(lease: &Lease, moment: u64, word: &str, rest: &str) -> Option<Result<Lease, LeaseFault>> {
     if word == "write" {
         return Some(after_writing(lease, rest.parse().ok(), moment));
     }
     let action = action_of(word, rest)?;
-    if moment <= LAST_MOMENT {
-        Some(act(lease, &action, moment))
-    } else {
-        None
-    }
+    Some(act(lease, &action, moment.min(LAST_MOMENT)))
 }
 
 fn after_writing(lease: &Lease, given: Option<u128>, moment: u64) -> Result<Lease, LeaseFault> {
@@ -208,4 +224,29 @@ fn say_lease(alloc: Global, lease: &Lease, out: &mut Vec<u8>) -> Result<(), Allo
         Lease::Broken { id } => format!(in alloc; "broken {id}")?,
     };
     say(out, text.as_str())
+}
+
+// The message of a fault.
+fn message(alloc: Global, name: &[u8], out: &mut Vec<u8>) -> Result<(), AllocError> {
+    match str::from_utf8(name).ok().and_then(fault_of) {
+        Some(fault) => say(out, format!(in alloc; "{fault}")?.as_str()),
+        None => say(out, "no fault"),
+    }
+}
+
+fn fault_of(name: &str) -> Option<LeaseFault> {
+    match name {
+        "LeaseIdMissing" => Some(LeaseFault::LeaseIdMissing),
+        "LeaseIdMismatchWithBlobOperation" => Some(LeaseFault::LeaseIdMismatchWithBlobOperation),
+        "LeaseLost" => Some(LeaseFault::LeaseLost),
+        "LeaseAlreadyPresent" => Some(LeaseFault::LeaseAlreadyPresent),
+        "LeaseIdMismatchWithLeaseOperation" => Some(LeaseFault::LeaseIdMismatchWithLeaseOperation),
+        "LeaseNotPresentWithLeaseOperation" => Some(LeaseFault::LeaseNotPresentWithLeaseOperation),
+        "LeaseIsBreakingAndCannotBeAcquired" => {
+            Some(LeaseFault::LeaseIsBreakingAndCannotBeAcquired)
+        }
+        "LeaseIsBreakingAndCannotBeChanged" => Some(LeaseFault::LeaseIsBreakingAndCannotBeChanged),
+        "LeaseIsBrokenAndCannotBeRenewed" => Some(LeaseFault::LeaseIsBrokenAndCannotBeRenewed),
+        _ => None,
+    }
 }

@@ -1,6 +1,6 @@
 // Tables of requests as they are decoded.
 use super::head::headers_of;
-use super::say::{say, say_whether};
+use super::say::{say, say_whether, split};
 use file_data::{Piece, SharedPiece};
 use head_text::HeaderList;
 use http_front::Raw;
@@ -23,14 +23,6 @@ pub fn answer(
         _ => return Ok(false),
     }
     Ok(true)
-}
-
-// The bytes up to the first of these, and those behind it.
-fn split_at(text: &[u8], byte: u8) -> (&[u8], &[u8]) {
-    match text.iter().position(|found| *found == byte) {
-        Some(at) => (&text[..at], &text[at.saturating_add(1)..]),
-        None => (text, b""),
-    }
 }
 
 // The headers, the superuser as the caller where the text names none.
@@ -56,7 +48,7 @@ fn body_of(alloc: Global) -> Result<SharedPiece, AllocError> {
 
 // A request of HTTP/1.1 or 1.0 with the body `abc`: `METHOD TARGET`, and headers.
 fn raw_of(alloc: Global, line: &[u8], headers: &[u8], minor: u8) -> Result<Raw, AllocError> {
-    let (method, target) = split_at(line, b' ');
+    let (method, target) = split(line);
     let method = piece_of(alloc, method)?;
     let target = piece_of(alloc, target)?;
     let headers = with_caller(alloc, headers)?;

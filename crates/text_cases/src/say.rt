@@ -26,3 +26,11 @@ pub fn say_bytes(out: &mut Vec<u8>, bytes: Option<&[u8]>) -> Result<(), AllocErr
 pub fn say_whether(out: &mut Vec<u8>, is_so: bool, words: (&str, &str)) -> Result<(), AllocError> {
     say(out, if is_so { words.0 } else { words.1 })
 }
+
+/// The text up to the first space, and what stands behind it.
+pub fn split(text: &[u8]) -> (&[u8], &[u8]) {
+    match text.iter().position(|byte| *byte == b' ') {
+        Some(at) => (&text[..at], text[at..].trim_ascii()),
+        None => (text, b""),
+    }
+}

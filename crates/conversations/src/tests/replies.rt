@@ -23,7 +23,7 @@ fn text_of(alloc: Global, reply: &Reply, number: u64, head: bool) -> Result<Vec<
 }
 
 fn fields_of_part(alloc: Global, props: Props) -> Result<Vec<Field>, AllocError> {
-    vec![in alloc;
+    Ok(vec![in alloc;
         Field::ETag(Some(10)),
         Field::LastModified(784_111_777_000),
         Field::AcceptRanges,
@@ -35,7 +35,7 @@ fn fields_of_part(alloc: Global, props: Props) -> Result<Vec<Field>, AllocError>
         Field::ContentType(Media::Octets),
         Field::ResourceType(Kind::File),
         Field::Properties(props),
-    ]
+    ]?)
 }
 
 fn reply(status: u16, code: Option<Code>, fields: Vec<Field>, body: Vec<u8>) -> Reply

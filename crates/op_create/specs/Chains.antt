@@ -2,6 +2,7 @@
 use Rattle.std.specs.Prelude.{◌≡◌, ℕ, Bool, true, false, List, [], ◌∷◌, ◌++◌, length, Option, Some, None, if◌then◌else◌}
 use Rattle.acl_text.specs.declared.acl.AclPair.{AclPair}
 use Rattle.acl_text.specs.declared.perm.ModeBits.{ModeBits}
+use Rattle.file_data.specs.FileRecord.{file_of}
 use Rattle.namespace_model.specs.declared.op.Kind.{Kind}
 use Rattle.namespace_model.specs.declared.request.Entry.{Entry}
 use Rattle.namespace_model.specs.declared.request.Request.{Request}
@@ -39,7 +40,7 @@ made_with owner group acl kind permissions umask props = record blank {
 -- a content without children
 abbrev pub own_content : model.Content → Content
 own_content model.directory = content.Directory (record { links = []; spare = 0 })
-own_content (model.file bytes staged) = content.File (record { committed = bytes; staged = staged; stage_room = 0; flush_room = 0 })
+own_content (model.file bytes staged) = content.File (file_of bytes staged)
 
 -- the inode of a node with this moment, without children
 abbrev pub new_inode : ℕ → Node → Inode

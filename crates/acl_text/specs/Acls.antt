@@ -1,4 +1,4 @@
--- What holds of each access control list, and how an answer yields to want of memory.
+-- What holds of each access control list.
 use Rattle.std.specs.Prelude.{ℕ, ◌≤◌, length, List, IsSome, IsTrue}
 use Rattle.std.specs.List.{list_any}
 use Rattle.std.specs.FinMap as fin

@@ -168,7 +168,7 @@ fn modify_pair(alloc: Global, pair: &AclPair, list: &AclList) -> Result<AclPair,
     pair_of(access, default).map_err(AclStop::Fault)
 }
 
-/// Sets entries: each of the list replaces the entry that the pair has for the same scope and who, or is added.
+/// Changes entries: each of the list replaces the entry that the pair has for the same scope and who, or is added.
 ///
 /// A default ACL that isn't there starts as the three base entries of the changed access ACL. In each scope that the list names, a
 /// mask that it gives stands; else the mask is the union of the owning group, the named users and the named groups where there

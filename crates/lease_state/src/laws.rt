@@ -13,7 +13,7 @@ ghost use Rattle.lease_state.specs.declared.lease.LeaseAction.TheVariants.{Acqui
 ghost use Rattle.lease_state.specs.declared.lease.AppendLease.TheVariants as append;
 ghost use Rattle.lease_state.specs.declared.lease.LeaseFault.TheVariants.{LeaseIdMissing};
 
-/// After an acquire that passed, and any calls but release and break, whether they passed or not and whatever their
+/// After an acquire that passed, and any actions but release and break and any plain writes, whether they passed or not and whatever their
 /// moments, a write without an id passes exactly at a moment not below the end of the lease that is kept then, and
 /// never where that lease is infinite. The lease is leased, unless a write after its end took it away; then each write
 /// without an id passes.

@@ -16,6 +16,6 @@ mod outside;
 
 pub use adapters::{StdIn, StdOut, SystemClock};
 pub use clocks::{FixedClock, ListClock};
-pub use memory::{BytesIn, BytesOut};
 pub use lease_state::LAST_MOMENT;
+pub use memory::{BytesIn, BytesOut};
 pub use outside::{Clock, Failed, Sink, Source};

@@ -22,6 +22,7 @@ use Rattle.path_text.specs.Paths.{is_prefix}
 use Rattle.lease_state.specs.declared.lease.AppendLease.{AppendLease}
 use Rattle.lease_state.specs.LeaseAppends.{lease_act_append}
 use Rattle.acl_text.specs.declared.perm.ModeBits.{ModeBits}
+use Rattle.acl_text.specs.declared.scope.Scope.{Scope}
 use Rattle.acl_text.specs.declared.who.Who.{Who}
 use Rattle.namespace_model.specs.declared.denied.Refusal.{Refusal}
 use Rattle.namespace_model.specs.declared.op.Kind.{Kind}
@@ -358,7 +359,7 @@ module _ (t : Tree) (e : Entry) (Q : Outcome → Type 0) (law : IsLaw t e Q) whe
       (unless_holds (lease_refuses e e.request.lease x) _ (lease_asked e.request.lease x)
       (law.succeeds (properties_set e p props x) (properties_are_set p props x is there refl)))))
 
-  module _ (p : Path) (owner group : Option (List ℕ)) (permissions : Option ModeBits) (acl : Option (List (Bool × Who × ℕ))) (is : e.request.op ≡ op.SetAccess p owner group permissions acl) where
+  module _ (p : Path) (owner group : Option (List ℕ)) (permissions : Option ModeBits) (acl : Option (List (Scope × Who × ℕ))) (is : e.request.op ≡ op.SetAccess p owner group permissions acl) where
     abbrev setting : Setting
     setting = record { owner = owner; group = group; permissions = permissions; acl = acl }
 

@@ -2,6 +2,7 @@
 use Rattle.std.proofs.Common.{◌≡◌, ◌⊎◌, ℕ, Bool, List, [], ◌∷◌, ◌++◌, Option, Some}
 use Rattle.acl_text.specs.declared.acl.AclPair.{AclPair}
 use Rattle.acl_text.specs.declared.perm.ModeBits.{ModeBits}
+use Rattle.acl_text.specs.declared.scope.Scope.{Scope}
 use Rattle.acl_text.specs.declared.who.Who.{Who}
 use Rattle.head_text.specs.declared.range.Range.{Range}
 use Rattle.lease_state.specs.declared.lease.AppendLease.{AppendLease}
@@ -63,7 +64,7 @@ pub data IsSuccess (t : Tree) (e : Entry) (o : Outcome) : Type 0 where
       → o ≡ appended e path (record { position = position; flush = flush; retain = retain; action = action }) x after → IsSuccess t e o
   a_file_is_flushed : (path : Path) (position : ℕ) (retain : Bool) (x : Node) → e.request.op ≡ op.Flush path position retain → at t path ≡ Some x → o ≡ flushed_to e path position retain x → IsSuccess t e o
   properties_are_set : (path : Path) (props : List (List ℕ × List ℕ)) (x : Node) → e.request.op ≡ op.SetProperties path props → at t path ≡ Some x → o ≡ properties_set e path props x → IsSuccess t e o
-  access_is_set : (path : Path) (owner group : Option (List ℕ)) (permissions : Option ModeBits) (acl : Option (List (Bool × Who × ℕ))) (x : Node) (pair : AclPair) → e.request.op ≡ op.SetAccess path owner group permissions acl
+  access_is_set : (path : Path) (owner group : Option (List ℕ)) (permissions : Option ModeBits) (acl : Option (List (Scope × Who × ℕ))) (x : Node) (pair : AclPair) → e.request.op ≡ op.SetAccess path owner group permissions acl
       → at t path ≡ Some x → o ≡ access_put e path (record { owner = owner; group = group; permissions = permissions; acl = acl }) x (Ok pair) → IsSuccess t e o
   a_batch_is_done : (path : Path) (change : BatchChange) (token : Option Path) (max : ℕ) (force : Bool) → e.request.op ≡ op.SetAccessRecursive path change token max force
       → o ≡ batched e path force token (batch_page t path token max) (batch_of t e change force (batch_page t path token max).paths) → IsSuccess t e o

@@ -16,7 +16,7 @@ use Rattle.commit_journal.specs.Keeper.{Told, AreKept}
 use Rattle.atomic_table.specs.Table.{State, Final, Seen}
 use Rattle.atomic_table.specs.Seated.{TableId}
 use Rattle.path_locks.specs.declared.rule.Slot.{Slot}
-use Rattle.path_locks.specs.declared.rule.Slot.TheVariants.{Empty, Part, Book}
+use Rattle.path_locks.specs.declared.rule.Slot.TheVariants.{Part, Book}
 use Rattle.path_locks.specs.declared.rule.View.{View}
 use Rattle.path_locks.specs.declared.rule.Opening.{Opening}
 use Rattle.path_locks.specs.Rule.{Ruled}

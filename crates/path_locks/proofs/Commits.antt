@@ -13,7 +13,7 @@ use Rattle.commit_journal.specs.Journal.{JournalView}
 use Rattle.commit_journal.specs.Keeper.{Told, AreKept}
 use Rattle.atomic_table.specs.Table.{Me, Allows, step, rest}
 use Rattle.path_locks.specs.declared.rule.Slot.{Slot}
-use Rattle.path_locks.specs.declared.rule.Slot.TheVariants.{Empty, Part, Book}
+use Rattle.path_locks.specs.declared.rule.Slot.TheVariants.{Book}
 use Rattle.path_locks.specs.declared.rule.View.{View}
 use Rattle.path_locks.specs.declared.rule.Opening.{Opening}
 use Rattle.path_locks.specs.Rule.{Ruled}

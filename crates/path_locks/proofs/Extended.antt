@@ -1,5 +1,5 @@
 -- One stripe more is taken, above all that is held.
-use Rattle.std.proofs.Common.{◌≡◌, ◌≢◌, ◌⊎◌, inl, inr, ⊎_elim, ℕ, zero, suc, ◌+◌, ◌-◌, ◌<◌, ◌≤◌, List, [], ◌∷◌, slice_get, slice_set, refl, ap, sym, ◌∙◌, subst, arith}
+use Rattle.std.proofs.Common.{◌≡◌, ◌≢◌, ◌⊎◌, inl, inr, ⊎_elim, ℕ, zero, suc, ◌+◌, ◌<◌, ◌≤◌, List, [], ◌∷◌, slice_get, slice_set, ap, sym, ◌∙◌, subst, arith}
 use Rattle.std.specs.Prelude as std
 use Rattle.lock_core.specs.declared.object.LockMode.{LockMode}
 use Rattle.lock_core.specs.declared.object.LockMode.TheVariants as mode
@@ -48,26 +48,26 @@ module _ {T E R K : Type 0} (o : Object T E R) (bare : T → T) where
   pub below_more : (n c : ℕ) (me : Me (Slot T E K) (View T E)) (parts : List (std.Option T)) → n ≤ c → HoldsBelow o bare n me parts → HoldsBelow o bare c me parts
   below_more n c me parts l b =
       record {
-    quiet = b.quiet;
-    above = λ k h. b.above k (omega (arith, l, h));
-    hand_is = b.hand_is ∙ sym (empties_short c n me.0.at.holds l b.above);
-    room = b.room;
-    out = b.out;
-    stands = b.stands;
-  }
+        quiet = b.quiet;
+        above = λ k h. b.above k (omega (arith, l, h));
+        hand_is = b.hand_is ∙ sym (empties_short c n me.0.at.holds l b.above);
+        room = b.room;
+        out = b.out;
+        stands = b.stands;
+      }
 
   -- and one that holds none from n on holds stripes below n alone
   pub below_fewer : (n c : ℕ) (me : Me (Slot T E K) (View T E)) (parts : List (std.Option T)) → n ≤ c → ((k : ℕ) → n ≤ k → HeldIn mode.None (hold_at me.0.at.holds k))
       → HoldsBelow o bare c me parts → HoldsBelow o bare n me parts
   below_fewer n c me parts l none b =
       record {
-    quiet = b.quiet;
-    above = none;
-    hand_is = b.hand_is ∙ empties_short c n me.0.at.holds l none;
-    room = b.room;
-    out = b.out;
-    stands = b.stands;
-  }
+        quiet = b.quiet;
+        above = none;
+        hand_is = b.hand_is ∙ empties_short c n me.0.at.holds l none;
+        room = b.room;
+        out = b.out;
+        stands = b.stands;
+      }
 
   -- a seat that holds a plan which has nothing from n on holds stripes below n alone
   pub plan_below : (n : ℕ) (modes : List LockMode) (me : Me (Slot T E K) (View T E)) (parts : List (std.Option T)) → n ≤ 64

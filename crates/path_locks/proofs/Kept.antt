@@ -1,5 +1,5 @@
 -- The keeper in the journal's slot, and the counts that seats know, through each kind of step.
-use Rattle.std.proofs.Common.{◌≡◌, ◌≢◌, ◌⊎◌, inl, inr, ℕ, ◌+◌, ◌<◌, ◌≤◌, Bool, true, false, List, [], ◌∷◌, ◌++◌, length, slice_set, slice_index, refl, ap, sym, ◌∙◌, subst, true≢false, arith}
+use Rattle.std.proofs.Common.{◌≡◌, ◌≢◌, ◌⊎◌, inl, inr, ℕ, ◌<◌, ◌≤◌, Bool, true, false, List, [], ◌∷◌, ◌++◌, length, slice_set, refl, ap, sym, ◌∙◌, subst, true≢false, arith}
 use Rattle.lock_core.specs.declared.machine.Sitting.{Sitting}
 use Rattle.lock_core.specs.Object.{Object}
 use Rattle.lock_core.specs.Machine.{LockState}
@@ -112,12 +112,12 @@ module _ {T E K : Type 0} where
         → IsKept tells (record { words = ws; homes = slice_set t.homes 64 none; views = slice_set t.views id w })
     kept_taken t k long ws j c there id v w here taken tape =
         let gone : get_elem? (slice_set t.homes 64 none) 64 ≡ some none = elem-set_same t.homes 64 none (omega (arith, long)) in record {
-      count = k.count;
-      counted = λ j' c' e. absurd (some-ne-none _ (sym (some-injective _ _ (sym gone ∙ e))));
-      kept = λ j' c' e. absurd (some-ne-none _ (sym (some-injective _ _ (sym gone ∙ e))));
-      below = λ i z at alive. below_of i z (at_set t.views id i w z at) alive;
-      had = λ i z at has. had_of i z (at_set t.views id i w z at) has;
-    }
+          count = k.count;
+          counted = λ j' c' e. absurd (some-ne-none _ (sym (some-injective _ _ (sym gone ∙ e))));
+          kept = λ j' c' e. absurd (some-ne-none _ (sym (some-injective _ _ (sym gone ∙ e))));
+          below = λ i z at alive. below_of i z (at_set t.views id i w z at) alive;
+          had = λ i z at has. had_of i z (at_set t.views id i w z at) has;
+        }
       where
         below_of : (i : ℕ) (z : View T E) → ((i ≡ id) × (w ≡ z)) ⊎ ((i ≢ id) × (get_elem? t.views i ≡ some z)) → z.at.live ≡ true → z.tape ≤ k.count
         below_of i z (inl p) alive = let e : z.tape ≡ k.count = ap (λ (q : View T E). q.tape) (sym p.1) ∙ tape ∙ k.counted j c there in omega (arith, e)
@@ -138,13 +138,13 @@ module _ {T E K : Type 0} where
         ∙ elem-set_same t.homes 64 (some (Book j c)) (omega (arith, long)) in
         let same : (j' : JournalView E) (c' : K) → get_elem? (put_back t.homes hand) 64 ≡ some (some (Book j' c')) → (let s : Slot T E K = Book j c in s) ≡ Book j' c' =
         λ j' c' e. some-injective _ _ (some-injective _ _ (sym there ∙ e)) in record {
-      count = (tells c).faults;
-      counted = λ j' c' e. ap (λ (q : K). (tells q).faults) (sym (same_keeper j j' c c' (same j' c' e)));
-      kept = λ j' c' e. subst (λ (q : K). AreKept (tells q).kept j'.entries) (same_keeper j j' c c' (same j' c' e))
-          (subst (λ (q : JournalView E). AreKept (tells c).kept q.entries) (same_book j j' c c' (same j' c' e)) keeps);
-      below = λ i z at alive. below_of i z (at_set t.views id i w z at) alive;
-      had = λ i z at has. had_of i z (at_set t.views id i w z at) has;
-    }
+          count = (tells c).faults;
+          counted = λ j' c' e. ap (λ (q : K). (tells q).faults) (sym (same_keeper j j' c c' (same j' c' e)));
+          kept = λ j' c' e. subst (λ (q : K). AreKept (tells q).kept j'.entries) (same_keeper j j' c c' (same j' c' e))
+              (subst (λ (q : JournalView E). AreKept (tells c).kept q.entries) (same_book j j' c c' (same j' c' e)) keeps);
+          below = λ i z at alive. below_of i z (at_set t.views id i w z at) alive;
+          had = λ i z at has. had_of i z (at_set t.views id i w z at) has;
+        }
       where
         below_of : (i : ℕ) (z : View T E) → ((i ≡ id) × (w ≡ z)) ⊎ ((i ≢ id) × (get_elem? t.views i ≡ some z)) → z.at.live ≡ true → z.tape ≤ (tells c).faults
         below_of i z (inl p) alive = let e : z.tape ≡ (tells c).faults = ap (λ (q : View T E). q.tape) (sym p.1) ∙ tape in omega (arith, e)

@@ -1,5 +1,5 @@
 -- Work in places, one after the other.
-use Rattle.std.proofs.Common.{◌≡◌, ◌⊎◌, inl, inr, ⊎_elim, ℕ, zero, suc, ◌+◌, ◌<◌, ◌≤◌, List, [], ◌∷◌, length, slice_get, slice_set, true, true≢false, false, refl, ap, sym, ◌∙◌, subst, length-set, arith}
+use Rattle.std.proofs.Common.{◌≡◌, ◌⊎◌, inl, inr, ⊎_elim, ℕ, zero, suc, ◌+◌, ◌<◌, ◌≤◌, List, [], ◌∷◌, length, slice_get, slice_set, true≢false, false, refl, ap, sym, ◌∙◌, subst, length-set, arith}
 use Rattle.std.specs.Prelude as std
 use Rattle.path_locks.specs.Holding.{bared}
 use Rattle.lock_core.specs.declared.object.LockMode.{LockMode}

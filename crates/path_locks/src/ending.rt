@@ -21,7 +21,11 @@ use lock_core::Parted;
 use std::alloc::Global;
 
 /// Joins one seat into another. Both hold nothing.
-fn join_in<P: Parted, K: Keeper<P::Entry>>(words: &LockWords<P, K>, seat: &mut LockSeat<P, K>, other: Seat<P, K>)
+fn join_in<P: Parted, K: Keeper<P::Entry>>(
+    words: &LockWords<P, K>,
+    seat: &mut LockSeat<P, K>,
+    other: Seat<P, K>,
+)
     requires own { (seat.old.table_id ≡ words.now.table_id) × (other.table ≡ words.now.table_id) × IsSized words.now.table_id }
     requires rest { IsResting seat.old.me.0.at }
     requires nothing { HoldsNothing other }
@@ -38,7 +42,10 @@ fn join_in<P: Parted, K: Keeper<P::Entry>>(words: &LockWords<P, K>, seat: &mut L
 }
 
 /// The last seat, once all others were joined into it.
-pub(crate) fn join_all<P: Parted, K: Keeper<P::Entry>>(words: &LockWords<P, K>, mut seats: Vec<Seat<P, K>>) -> LockSeat<P, K>
+pub(crate) fn join_all<P: Parted, K: Keeper<P::Entry>>(
+    words: &LockWords<P, K>,
+    mut seats: Vec<Seat<P, K>>,
+) -> LockSeat<P, K>
     requires own { IsSized words.now.table_id }
     requires every { AreEverySeat (table_of K.tells words.now.table_id words.now.key) seats.items }
     requires some { 1 ≤ words.now.key.seats }

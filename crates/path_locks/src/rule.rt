@@ -55,12 +55,11 @@ pub struct Locks<P, K> {
     keeper: PhantomData<K>,
 }
 
-impl<P: Parted, K: Keeper<P::Entry>>
-    TableRule<
-        Slot<P::Part, P::Entry, K>,
-        View<P::Part, P::Entry>,
-        Opening<P::Entry, K>,
-    > for Locks<P, K> {
+impl<P: Parted, K: Keeper<P::Entry>> TableRule<
+    Slot<P::Part, P::Entry, K>,
+    View<P::Part, P::Entry>,
+    Opening<P::Entry, K>,
+> for Locks<P, K> {
     ghost use Rattle.path_locks.specs.Rule.{Ruled, first_view};
 
     ghost holds = { Ruled P.object P.bare K.tells };
@@ -78,8 +77,12 @@ pub type LockView<P> = View<<P as Parted>::Part, <P as Parted>::Entry>;
 pub type LockSeat<P, K> = Seat<LockSlot<P, K>, LockView<P>>;
 
 /// The words and slots of an object's table, as seats step on them.
-pub type LockWords<P, K> =
-    Shared<LockSlot<P, K>, LockView<P>, Opening<<P as Parted>::Entry, K>, Locks<P, K>>;
+pub type LockWords<P, K> = Shared<
+    LockSlot<P, K>,
+    LockView<P>,
+    Opening<<P as Parted>::Entry, K>,
+    Locks<P, K>,
+>;
 
 /// An object's table with its memory.
 pub type LockMemory<P, K> = Table<

@@ -14,10 +14,9 @@ pub(crate) use journal::{lock_journal, put_journal, put_longer};
 pub(crate) use latch::{look_exclusive, look_shared};
 pub(crate) use narrow::narrow_all;
 pub(crate) use seats::{join_seats, split_seat};
+use std::{hint, thread};
 pub(crate) use stripe::take_stripe;
 pub(crate) use work::{apply_all, reserve_all};
-
-use std::{hint, thread};
 
 /// Waits a little: up to 50 turns by a hint, and then by giving the processor away. It answers the turns so far.
 fn pause(turns: u8) -> u8 {

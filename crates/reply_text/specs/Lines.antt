@@ -2,7 +2,6 @@
 use Rattle.std.specs.Prelude.{ℕ, ◌/◌, Bool, true, false, List, [], ◌∷◌, ◌++◌, codes, decimal, Some, None}
 use Rattle.std.specs.List.{flat_map}
 use Rattle.http.specs.StatusCode.{status_text}
-use Rattle.acl_text.specs.PermTexts.{letter}
 use Rattle.head_text.specs.DateText.{http_date}
 use Rattle.head_text.specs.PropertyTexts.{properties_text}
 use Rattle.head_text.specs.TagTexts.{etag_text}
@@ -67,10 +66,6 @@ lock_text false = codes "unlocked"
 abbrev pub duration_text : Bool → List ℕ
 duration_text true = codes "infinite"
 duration_text false = codes "fixed"
-
--- `r` or `-`, `w` or `-`, `x` or `-`
-abbrev pub bits_text : ℕ → List ℕ
-bits_text bits = letter 114 4 bits ∷ letter 119 2 bits ∷ letter 120 1 bits ∷ []
 
 abbrev pub rule_text : Rule → List ℕ
 rule_text rule.Owner = codes "owner"

@@ -1,5 +1,6 @@
 -- The bytes of a reply (RFC 9112, sections 4 and 6; the names of headers and codes are those of Microsoft's REST reference).
 use Rattle.std.specs.Prelude.{ℕ, ◌≤◌, Bool, true, false, ◌||◌, ◌==◌, List, [], ◌∷◌, ◌++◌, ⊤, length, All, count_by, codes, decimal, Option, Some, None, if◌then◌else◌}
+use Rattle.acl_text.specs.PermTexts.{perm_text}
 use Rattle.http.specs.StatusCode.{IsStatusCode}
 use Rattle.serde_json.specs.Data.{Data, object, member, no_members, string}
 use Rattle.serde_json.specs.Written.{compact_text}
@@ -12,7 +13,7 @@ use Rattle.namespace_model.specs.declared.field.Field.{Field}
 use Rattle.namespace_model.specs.declared.field.Field.TheVariants.{ETag, LastModified, ContentLength}
 use Rattle.namespace_model.specs.declared.reply.Reply.{Reply}
 use Rattle.namespace_model.specs.Codes.{code_text, message_text}
-use Rattle.reply_text.specs.Lines.{line_end, line, status_line, moment_text, bits_text, rule_text, field_lines}
+use Rattle.reply_text.specs.Lines.{line_end, line, status_line, moment_text, rule_text, field_lines}
 
 -- the lines that every reply to an entry begins with
 unfoldable pub start_lines : ℕ → ℕ → ℕ → List ℕ
@@ -44,7 +45,7 @@ code_lines (Some code) false = line (codes "Content-Type") (codes "application/j
 unfoldable pub denial_lines : Denied → List ℕ
 denial_lines d =
     line (codes "x-ms-denied-rule") (rule_text d.rule) ++ line (codes "x-ms-denied-path") (written_path d.at)
-    ++ line (codes "x-ms-denied-want") (bits_text d.want) ++ line (codes "x-ms-denied-have") (bits_text d.have)
+    ++ line (codes "x-ms-denied-want") (perm_text d.want) ++ line (codes "x-ms-denied-have") (perm_text d.have)
 
 abbrev pub denied_lines : Option Denied → List ℕ
 denied_lines None = []

@@ -4,7 +4,7 @@ ghost use Rattle.path_text.specs.Targets.{written_path};
 ghost use Rattle.reply_text.specs.ReplyText.{fault_data, fault_body, body_of, code_lines, denial_lines, denied_lines};
 
 use super::lines::put_line;
-use super::values::{bits_text, rule_text};
+use super::values::rule_text;
 use namespace_model::{Code, Denied};
 use path_text::{Path, write_path};
 use serde_json::{Value, json};
@@ -69,8 +69,8 @@ fn put_denial_lines(alloc: Global, out: &mut Vec<u8>, denied: &Denied) -> Result
     let path = path_text(alloc, &denied.at)?;
     put_line(out, b"x-ms-denied-rule", rule_text(denied.rule))?;
     put_line(out, b"x-ms-denied-path", path.as_slice())?;
-    put_line(out, b"x-ms-denied-want", &bits_text(denied.want))?;
-    put_line(out, b"x-ms-denied-have", &bits_text(denied.have))?;
+    put_line(out, b"x-ms-denied-want", &denied.want.text())?;
+    put_line(out, b"x-ms-denied-have", &denied.have.text())?;
     Ok(())
 }
 

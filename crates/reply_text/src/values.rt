@@ -1,11 +1,9 @@
 ghost use Rattle.std.specs.Prelude.{◌≡◌, ◌++◌, OnOk, IfOk};
-ghost use Rattle.acl_text.specs.PermTexts.{letter};
 ghost use Rattle.head_text.specs.PropertyTexts.{properties_text};
 ghost use Rattle.lease_state.specs.LeaseId.{lease_id_text};
 ghost use Rattle.head_text.specs.TagTexts.{etag_text};
-ghost use Rattle.reply_text.specs.Lines.{range_text, media_text, kind_text, state_text, lock_text, duration_text, bits_text, rule_text};
+ghost use Rattle.reply_text.specs.Lines.{range_text, media_text, kind_text, state_text, lock_text, duration_text, rule_text};
 
-use acl_text::Perm;
 use head_text::{Props, write_hex16, write_props};
 use itoa::Buffer;
 use lease_state::{State, write_lease_id};
@@ -116,25 +114,4 @@ pub(crate) fn rule_text(rule: Rule) -> &'static [u8]
         Rule::GroupOwner => b"group-owner".as_slice(),
         Rule::SuperuserOnly => b"superuser-only".as_slice(),
     }
-}
-
-// A letter where a bit is set, and else `-`.
-fn letter(perm: Perm, bit: u8, character: u8) -> u8
-    ensures { result ≡ letter character bit perm }
-{
-    if perm.bits() & bit == 0 {
-        b'-'
-    } else {
-        character
-    }
-}
-
-pub(crate) fn bits_text(perm: Perm) -> [u8; 3]
-    ensures { result ≡ bits_text perm }
-{
-    [
-        letter(perm, 4, b'r'),
-        letter(perm, 2, b'w'),
-        letter(perm, 1, b'x'),
-    ]
 }

@@ -28,10 +28,14 @@ index_is (x ∷ xs) (suc k) n e = index_is xs k n e
 module _ {T E R : Type 0} (o : Object T E R) (uses : E → ℕ) where
   -- none are used up by an empty journal
   pub used_none : (h : List E) → h ≡ [] → AreUsed o uses h (replicate 64 0)
-  used_none h e k l = (0, in_replicate 64 k 0 l, record {
-    is_sum = sym (ap (λ (z : List E). sum_by uses (by_pass o k z)) e);
-    light = omega arith;
-  })
+  used_none h e k l = (
+    0,
+    in_replicate 64 k 0 l,
+    record {
+      is_sum = sym (ap (λ (z : List E). sum_by uses (by_pass o k z)) e);
+      light = omega arith;
+    },
+  )
 
   -- what stands at the place of a pass
   pub read_used : (h : List E) (used : List ℕ) (k : ℕ) → k < 64 → AreUsed o uses h used → IsUsed o uses h k (slice_index used k)
@@ -57,16 +61,20 @@ module _ {T E R : Type 0} (o : Object T E R) (uses : E → ℕ) where
           ap (λ (z : List E). length z) more ∙ length-append (by_pass o (o.by e) h) (e ∷ []) in
           let was = mine.2.is_sum in
           let light = mine.2.light in
-          subst (λ (i : ℕ). (n : ℕ) × (slice_get used' i ≡ Some n) × IsUsed o uses (h ++ e ∷ []) i n) (sym q)
-          (mine.0 + uses e, ap (λ (z : List ℕ). slice_get z (o.by e)) is ∙ there_set used (o.by e) mine.0 (mine.0 + uses e) mine.1,
-          record { is_sum = omega (arith, was, sum); light = omega (arith, light, long, small) })
+          subst (λ (i : ℕ). (n : ℕ) × (slice_get used' i ≡ Some n) × IsUsed o uses (h ++ e ∷ []) i n) (sym q) (
+            mine.0 + uses e,
+            ap (λ (z : List ℕ). slice_get z (o.by e)) is ∙ there_set used (o.by e) mine.0 (mine.0 + uses e) mine.1,
+            record { is_sum = omega (arith, was, sum); light = omega (arith, light, long, small) },
+          )
 
       other : k ≢ o.by e → (n : ℕ) × (slice_get used' k ≡ Some n) × IsUsed o uses (h ++ e ∷ []) k n
       other ne =
           let t = are k l in
-          let kept : by_pass o k (h ++ e ∷ []) ≡ by_pass o k h = by_pass_other o k h e (λ q. ne (sym q)) in
-          (t.0, ap (λ (z : List ℕ). slice_get z k) is ∙ get-set_other used (o.by e) k (mine.0 + uses e) ne ∙ t.1,
-          (record { is_sum = t.2.is_sum ∙ sym (ap (λ (z : List E). sum_by uses z) kept); light = (let q = ap (λ (z : List E). length z) kept in let b = t.2.light in omega (arith, q, b)) }))
+          let kept : by_pass o k (h ++ e ∷ []) ≡ by_pass o k h = by_pass_other o k h e (λ q. ne (sym q)) in (
+            t.0,
+            ap (λ (z : List ℕ). slice_get z k) is ∙ get-set_other used (o.by e) k (mine.0 + uses e) ne ∙ t.1,
+            (record { is_sum = t.2.is_sum ∙ sym (ap (λ (z : List E). sum_by uses z) kept); light = (let q = ap (λ (z : List E). length z) kept in let b = t.2.light in omega (arith, q, b)) }),
+          )
 
   -- the journal was gone through as far as this number
   pub record IsThrough (h : List E) (n : ℕ) (used : List ℕ) : Type 0 where

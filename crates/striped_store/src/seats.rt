@@ -56,7 +56,10 @@ fn add<P: Parted, K: Keeper<P::Entry>>(seats: &mut Vec<Seat<P, K>>, seat: Seat<P
 }
 
 /// The seats of passes, in the order of the passes, in a list that has room for one more.
-fn gather<P: Parted, K: Keeper<P::Entry>>(passes: Vec<Pass<P, K>>, mut seats: Vec<Seat<P, K>>) -> Vec<Seat<P, K>>
+fn gather<P: Parted, K: Keeper<P::Entry>>(
+    passes: Vec<Pass<P, K>>,
+    mut seats: Vec<Seat<P, K>>,
+) -> Vec<Seat<P, K>>
     requires empty { seats.items ≡ [] }
     requires room { length passes.items < vec_capacity seats }
     ensures seats { result.items ≡ map (λ p. p.seat) passes.items }
@@ -77,7 +80,9 @@ fn gather<P: Parted, K: Keeper<P::Entry>>(passes: Vec<Pass<P, K>>, mut seats: Ve
 }
 
 /// The seats of passes, in the order of the passes. They need no memory, since each pass has room for all of them.
-pub(crate) fn take_seats<P: Parted, K: Keeper<P::Entry>>(mut passes: Vec<Pass<P, K>>) -> Vec<Seat<P, K>>
+pub(crate) fn take_seats<P: Parted, K: Keeper<P::Entry>>(
+    mut passes: Vec<Pass<P, K>>,
+) -> Vec<Seat<P, K>>
     requires some { 1 ≤ length passes.items }
     requires few { length passes.items ≤ 64 }
     ensures { result.items ≡ map (λ p. p.seat) passes.items }

@@ -61,7 +61,11 @@ pub struct Closing<P: Parted, K: Keeper<P::Entry>> {
 impl<P: Parted, K: Keeper<P::Entry>> Store<P, K> {
     /// A store of the object as it is at the start, with an empty journal of these limits, and its passes with the numbers 0,
     /// 1, 2 and so on, in this order; the limits say how many. The one error is want of memory.
-    pub fn start(alloc: Global, limits: &Limits, keeper: K) -> Result<(Store<P, K>, Vec<Pass<P, K>>), AllocError>
+    pub fn start(
+        alloc: Global,
+        limits: &Limits,
+        keeper: K,
+    ) -> Result<(Store<P, K>, Vec<Pass<P, K>>), AllocError>
         requires kept { AreKept (K.tells keeper).kept [] }
         ensures limits { IfOk result (λ r. r.0.limits ≡ limits.now) }
         ensures faults { IfOk result (λ r. r.0.faults ≡ (K.tells keeper).faults) }

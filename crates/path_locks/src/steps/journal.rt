@@ -7,15 +7,18 @@ ghost use Rattle.path_locks.specs.Moves.{TookJournal, GaveJournal, Commits};
 ghost use Rattle.commit_journal.specs.Keeper.{AreKept};
 ghost use Rattle.path_locks.specs.Committing.{MayCommit};
 
-use crate::plays::{GivesJournal, GivesLonger, TakesJournal};
 use super::pause;
+use crate::plays::{GivesJournal, GivesLonger, TakesJournal};
 use crate::rule::{LockSeat, LockWords, Slot};
 use commit_journal::{Journal, Keeper};
 use lock_core::Parted;
 use std::sync::Wait;
 
 /// Takes the journal, where nobody has it. Its slot stays in hand, empty.
-fn try_journal<P: Parted, K: Keeper<P::Entry>>(words: &LockWords<P, K>, seat: &mut LockSeat<P, K>) -> Option<(Journal<P::Entry>, K)>
+fn try_journal<P: Parted, K: Keeper<P::Entry>>(
+    words: &LockWords<P, K>,
+    seat: &mut LockSeat<P, K>,
+) -> Option<(Journal<P::Entry>, K)>
     requires own { (seat.old.table_id ≡ words.now.table_id) × IsSized words.now.table_id }
     requires quiet { IsQuiet seat.old.me.0.at }
     ensures own { (seat.new.table_id ≡ seat.old.table_id) × (seat.new.id ≡ seat.old.id) }

@@ -9,8 +9,8 @@ ghost use Rattle.path_locks.specs.Plays.{MayGive};
 ghost use Rattle.path_locks.specs.Holding.{IsSized};
 ghost use Rattle.path_locks.specs.Moves.{TookLatch, GaveLatch, LookedAt};
 
-use crate::plays::{GivesLatch, TakesLatch};
 use super::pause;
+use crate::plays::{GivesLatch, TakesLatch};
 use crate::rule::{LockSeat, LockWords, Slot};
 use commit_journal::Keeper;
 use lock_core::Parted;
@@ -18,7 +18,11 @@ use std::sync::Wait;
 
 /// Takes the latch of a stripe that the seat holds shared, where nobody has it, and answers the part. The slot stays in
 /// hand, empty.
-fn try_latch<P: Parted, K: Keeper<P::Entry>>(words: &LockWords<P, K>, seat: &mut LockSeat<P, K>, stripe: u8) -> Option<P::Part>
+fn try_latch<P: Parted, K: Keeper<P::Entry>>(
+    words: &LockWords<P, K>,
+    seat: &mut LockSeat<P, K>,
+    stripe: u8,
+) -> Option<P::Part>
     requires own { (seat.old.table_id ≡ words.now.table_id) × IsSized words.now.table_id }
     requires may { (stripe < 64) × MayGive mode.Shared seat.old.me.0.at stripe }
     ensures own { (seat.new.table_id ≡ seat.old.table_id) × (seat.new.id ≡ seat.old.id) }
@@ -62,7 +66,12 @@ fn lock_latch<R: Wait, P: Parted, K: Keeper<P::Entry>>(
 }
 
 /// Gives back the latch of a stripe, with the part.
-fn give_latch<P: Parted, K: Keeper<P::Entry>>(words: &LockWords<P, K>, seat: &mut LockSeat<P, K>, stripe: u8, part: P::Part)
+fn give_latch<P: Parted, K: Keeper<P::Entry>>(
+    words: &LockWords<P, K>,
+    seat: &mut LockSeat<P, K>,
+    stripe: u8,
+    part: P::Part,
+)
     requires own { (seat.old.table_id ≡ words.now.table_id) × IsSized words.now.table_id }
     requires may { (stripe < 64) × (seat.old.me.0.at.live ≡ true) × (seat.old.me.0.at.latch ≡ Some stripe) }
     requires part { note_of (hold_at seat.old.me.0.at.holds stripe) ≡ some (P.bare part) }

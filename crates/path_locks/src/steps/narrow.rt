@@ -19,7 +19,12 @@ use commit_journal::Keeper;
 use lock_core::{LockMode, Parted};
 
 /// Gives back the part of a stripe that the seat holds exclusively, and holds the stripe shared.
-fn make_shared<P: Parted, K: Keeper<P::Entry>>(words: &LockWords<P, K>, seat: &mut LockSeat<P, K>, stripe: u8, part: P::Part)
+fn make_shared<P: Parted, K: Keeper<P::Entry>>(
+    words: &LockWords<P, K>,
+    seat: &mut LockSeat<P, K>,
+    stripe: u8,
+    part: P::Part,
+)
     requires own { (seat.old.table_id ≡ words.now.table_id) × IsSized words.now.table_id }
     requires may { (stripe < 64) × MayGive locked.Exclusive seat.old.me.0.at stripe }
     requires part { hold_at seat.old.me.0.at.holds stripe ≡ Exclusive (P.bare part) }

@@ -8,7 +8,10 @@ use commit_journal::Keeper;
 use lock_core::Parted;
 
 /// The first seat makes another one, which has seen what it has, and has the next number.
-pub(crate) fn split_seat<P: Parted, K: Keeper<P::Entry>>(words: &LockWords<P, K>, first: &mut LockSeat<P, K>) -> LockSeat<P, K>
+pub(crate) fn split_seat<P: Parted, K: Keeper<P::Entry>>(
+    words: &LockWords<P, K>,
+    first: &mut LockSeat<P, K>,
+) -> LockSeat<P, K>
     requires own { (first.old.table_id ≡ words.now.table_id) × IsSized words.now.table_id }
     requires live { first.old.me.0.at.live ≡ true }
     requires room { (0 < first.old.me.0.made) × (first.old.me.0.made < words.now.key.seats) }

@@ -32,7 +32,11 @@ pub(crate) fn try_shared<P: Parted, K: Keeper<P::Entry>>(
 }
 
 /// Gives back the stripe, which the seat holds shared.
-pub(crate) fn give_shared<P: Parted, K: Keeper<P::Entry>>(words: &LockWords<P, K>, seat: &mut LockSeat<P, K>, stripe: u8)
+pub(crate) fn give_shared<P: Parted, K: Keeper<P::Entry>>(
+    words: &LockWords<P, K>,
+    seat: &mut LockSeat<P, K>,
+    stripe: u8,
+)
     requires own { (seat.old.table_id ≡ words.now.table_id) × IsSized words.now.table_id }
     requires may { (stripe < 64) × MayGive mode.Shared seat.old.me.0.at stripe }
     ensures own { (seat.new.table_id ≡ seat.old.table_id) × (seat.new.id ≡ seat.old.id) }

@@ -6,14 +6,14 @@ ghost use Rattle.lock_core.specs.Machine.{HeldIn, hold_at};
 ghost use Rattle.path_locks.specs.Plays.{MayTake, Holds};
 ghost use Rattle.path_locks.specs.Holding.{IsSized, HoldsBelow, HeldAnew};
 
-use super::pause;
 use super::exclusive::{give_exclusive, try_exclusive};
+use super::pause;
 use super::shared::{give_shared, try_shared};
 use crate::rule::{LockSeat, LockWords};
 use commit_journal::Keeper;
 use lock_core::{LockMode, Parted};
-use std::sync::Wait;
 use std::mem;
+use std::sync::Wait;
 
 /// Waits for the stripe and takes it exclusively, with its part.
 fn lock_exclusive<R: Wait, P: Parted, K: Keeper<P::Entry>>(
@@ -38,7 +38,12 @@ fn lock_exclusive<R: Wait, P: Parted, K: Keeper<P::Entry>>(
 }
 
 /// Waits for the stripe and takes it shared.
-fn lock_shared<R: Wait, P: Parted, K: Keeper<P::Entry>>(words: &LockWords<P, K>, rt: &R, seat: &mut LockSeat<P, K>, stripe: u8)
+fn lock_shared<R: Wait, P: Parted, K: Keeper<P::Entry>>(
+    words: &LockWords<P, K>,
+    rt: &R,
+    seat: &mut LockSeat<P, K>,
+    stripe: u8,
+)
     requires own { (seat.old.table_id ≡ words.now.table_id) × IsSized words.now.table_id }
     requires may { (stripe < 64) × MayTake seat.old.me.0.at stripe }
     ensures own { (seat.new.table_id ≡ seat.old.table_id) × (seat.new.id ≡ seat.old.id) }

@@ -1,4 +1,4 @@
-use Rattle.std.proofs.Common.{sym, ◌∙◌, subst, ap, refl}
+use Rattle.std.proofs.Common.{sym, subst}
 use Rattle.lock_core.specs.Sound.{AllFit}
 use Rattle.path_locks.specs.declared.rule.Opening.{Opening}
 use Rattle.path_locks.proofs.table.LockTable.start.Goals as goal

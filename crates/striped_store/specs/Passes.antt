@@ -1,5 +1,5 @@
 -- What holds of a store and of a pass between two calls.
-use Rattle.std.specs.Prelude.{◌≡◌, ℕ, ◌*◌, ◌<◌, ◌≤◌, false, List, [], length, sum_by}
+use Rattle.std.specs.Prelude.{◌≡◌, ℕ, ◌*◌, ◌<◌, ◌≤◌, false, List, length, sum_by}
 use Rattle.lock_core.specs.declared.object.LockMode.{LockMode}
 use Rattle.lock_core.specs.Object.{Object}
 use Rattle.commit_journal.specs.Limits.{AreWithin}

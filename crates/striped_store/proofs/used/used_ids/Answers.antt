@@ -1,6 +1,5 @@
-use Rattle.std.proofs.Common.{◌≡◌, slice_get, Some, ap, sym, ◌∙◌, refl, arith}
+use Rattle.std.proofs.Common.{◌≡◌, slice_get, Some, ap, refl, arith}
 use Rattle.std.specs.Option.{option_copied}
-use Rattle.std.proofs.lemmas.Option.{slice_get_within, none-some}
 use Rattle.striped_store.proofs.Using.{through_none, through_all, through_room, through_next, next_entry}
 use Rattle.striped_store.proofs.used.used_ids.Goals as goal
 

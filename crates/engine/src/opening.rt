@@ -3,8 +3,7 @@ ghost use Rattle.std.specs.Prelude.{◌≡◌, IfOk};
 ghost use Rattle.engine.specs.Opening.{account_inode};
 ghost use Rattle.inode_tree.specs.Inodes.{bare};
 
-use acl_check::base_pair;
-use acl_text::{Id, ModeBits, Perm};
+use acl_text::{AclPair, Id, ModeBits, Perm};
 use head_text::Props;
 use inode_tree::{Children, Content, Inode, Meta};
 use lease_state::Lease;
@@ -27,7 +26,7 @@ pub(crate) fn account(alloc: Global) -> Result<Inode, AllocError>
             kind: Kind::Directory,
             owner: Id::superuser(alloc)?,
             group: Id::superuser(alloc)?,
-            acl: base_pair(alloc, &mode)?,
+            acl: AclPair::of_mode(alloc, &mode)?,
             sticky: false,
             moment: 0,
             number: 0,

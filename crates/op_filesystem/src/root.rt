@@ -3,7 +3,6 @@ ghost use Rattle.std.specs.Prelude.{◌≡◌, ◌<◌, [], ◌∷◌, length, I
 ghost use Rattle.namespace_model.specs.CreateFilesystem.{root_access};
 ghost use Rattle.op_filesystem.specs.Filesystems.{root_inode};
 
-use acl_check::base_pair;
 use acl_text::{AclPair, Id, ModeBits, Perm};
 use head_text::Props;
 use inode_tree::{Children, Content, Inode, Meta};
@@ -33,7 +32,7 @@ fn root_access(alloc: Global) -> Result<AclPair, AllocError>
         group: Perm::READ_EXECUTE,
         other: Perm::NONE,
     };
-    base_pair(alloc, &mode)
+    AclPair::of_mode(alloc, &mode)
 }
 
 // The properties that were given, or none.

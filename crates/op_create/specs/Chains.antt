@@ -21,6 +21,7 @@ use Rattle.inode_tree.specs.declared.inode.Content.{Content}
 use Rattle.inode_tree.specs.declared.inode.Content.TheVariants as content
 use Rattle.inode_tree.specs.declared.inode.Inode.{Inode}
 use Rattle.inode_tree.specs.After.{meta_of}
+use Rattle.inode_tree.specs.ChildLists.{no_children}
 use Rattle.op_create.specs.declared.place.Place.{Place}
 use Rattle.op_create.specs.Creates.{making_of, asked}
 
@@ -39,7 +40,7 @@ made_with owner group acl kind permissions umask props = record blank {
 
 -- a content without children
 abbrev pub own_content : model.Content → Content
-own_content model.directory = content.Directory (record { links = []; spare = 0 })
+own_content model.directory = content.Directory no_children
 own_content (model.file bytes staged) = content.File (file_of bytes staged)
 
 -- the inode of a node with this moment, without children

@@ -204,7 +204,7 @@ fn op_of(path: Path, query: &Query, raw: &Raw) -> Result<Op, Code>
     let Some(operation) = Operation::of(Method::of(raw), query, raw) else {
         return Err(Code::UnsupportedHttpVerb);
     };
-    if !operation.takes(part_count(&path)) {
+    if !operation.takes(path.depth()) {
         return Err(Code::InvalidUri);
     }
     if has_unbuilt_header(raw) {
@@ -213,8 +213,3 @@ fn op_of(path: Path, query: &Query, raw: &Raw) -> Result<Op, Code>
     built_op(operation, path, query)
 }
 
-fn part_count(path: &Path) -> usize
-    ensures { result ≡ length path.now }
-{
-    path.parts().count()
-}

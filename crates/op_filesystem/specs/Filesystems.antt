@@ -15,6 +15,7 @@ use Rattle.inode_tree.specs.declared.id.NodeId.{NodeId}
 use Rattle.inode_tree.specs.declared.inode.Content.TheVariants as content
 use Rattle.inode_tree.specs.declared.inode.Inode.{Inode}
 use Rattle.inode_tree.specs.After.{meta_of}
+use Rattle.inode_tree.specs.ChildLists.{no_children}
 use Rattle.inode_tree.specs.Inodes.{BareInode}
 use Rattle.inode_tree.specs.Parts.{child_of}
 use Rattle.inode_tree.specs.Views.{Held, Shown, covers, shown_at}
@@ -41,7 +42,7 @@ pub record LacksName (shown : Shown) (name : List ℕ) : Type 0 where
 abbrev pub root_inode : ℕ → Option (List (List ℕ × List ℕ)) → Inode
 root_inode moment props = record {
   meta = meta_of (record (new_root props) { moment = moment });
-  content = content.Directory (record { links = []; spare = 0 });
+  content = content.Directory no_children;
 }
 
 -- A draft by which the root gets this id, the only one that is drawn, and the account leads to it by this name. The account is read, and both are written.

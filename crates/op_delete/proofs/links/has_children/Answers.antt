@@ -3,7 +3,7 @@ use Rattle.op_delete.proofs.links.has_children.Goals as goal
 
 pub returns-in-Directory : goal.returns-in-Directory
 returns-in-Directory c =
-    directory_has c.args.node.now c.inode.result.now c.in-Directory.children c.args.node.now.meta.number c.is_empty.result c.inode.ensures c.in-Directory.is c.is_empty.ensures
+    directory_has c.args.node.now c.inode.result.now c.in-Directory.children c.args.node.now.meta.number c.is_empty.result c.inode.ensures c.in-Directory.is c.is_empty.ensures.none
 
 pub returns-in-File : goal.returns-in-File
 returns-in-File c = file_has_none c.args.node.now c.inode.result.now c.in-File.field-0 c.args.node.now.meta.number c.inode.ensures c.in-File.is

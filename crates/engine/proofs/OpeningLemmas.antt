@@ -41,7 +41,7 @@ absent (m ∷ p) n = at_other m (p ++ n ∷ [])
 
 account_limits : KeepsLimits []
 unfolding lib.Utf8.encode
-account_limits = record { parts = refl; bytes = refl; utf8 = (47 ∷ [], (refl, refl)); no_control = refl; length_within = lit≤ tt; depth_within = lit≤ tt }
+account_limits = record { parts = refl; length_within = lit≤ tt; depth_within = lit≤ tt }
 
 opening_is_tree : IsTree opening_tree
 opening_is_tree = record {

@@ -40,7 +40,6 @@ absent [] n = at_other n []
 absent (m ∷ p) n = at_other m (p ++ n ∷ [])
 
 account_limits : KeepsLimits []
-unfolding lib.Utf8.encode
 account_limits = record { parts = refl; length_within = lit≤ tt; depth_within = lit≤ tt }
 
 opening_is_tree : IsTree opening_tree

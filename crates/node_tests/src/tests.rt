@@ -3,3 +3,4 @@ mod children;
 mod ids;
 mod large;
 mod making;
+mod pages;

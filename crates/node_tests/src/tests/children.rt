@@ -6,14 +6,11 @@ use std::test::Fail;
 
 fn add(alloc: Global, children: &mut Children, text: &[u8], id: u64) -> Result<(), AllocError> {
     let name = name(alloc, text)?;
-    children.reserve()?;
-    children.link(name, NodeId(id));
-    Ok(())
+    children.link(alloc, name, NodeId(id))
 }
 
 fn remove(alloc: Global, children: &mut Children, text: &[u8]) -> Result<(), AllocError> {
-    children.unlink(&name(alloc, text)?);
-    Ok(())
+    children.unlink(alloc, &name(alloc, text)?)
 }
 
 // `a` is 6, and `m` was 4 and is 8; `z` was there.

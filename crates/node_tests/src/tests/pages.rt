@@ -1,4 +1,4 @@
-// Tests of the pages of names: for a crate of tests that stands on inode_tree and path_text.
+// The pages on which the names of a directory stand.
 use inode_tree::{Children, NodeId};
 use path_text::{Name, read_plain};
 use std::alloc::Global;

@@ -20,7 +20,7 @@ use Rattle.namespace_model.specs.declared.op.Op.TheVariants as op
 use Rattle.head_text.specs.Conditions.{no_conditions}
 use Rattle.op_decode.specs.Built.{IsBuilt, IsBuiltOperation, HasBuiltHeadersFor}
 use Rattle.namespace_model.specs.declared.request.Request.{Request}
-use Rattle.namespace_model.specs.Sound.{IsSound, IsOperation, IsCaller, HasCaller, is_of_decoding}
+use Rattle.namespace_model.specs.Sound.{HasLeaseId, IsSound, IsOperation, IsCaller, HasCaller, is_of_decoding}
 use Rattle.op_decode.specs.declared.asked.Asked.{Asked}
 use Rattle.op_decode.specs.declared.operation.Operation.{Operation}
 use Rattle.op_decode.specs.declared.operation.Operation.TheVariants.{CreateFilesystem, Create, GetProperties, Delete}
@@ -167,10 +167,16 @@ has_built_headers : (op : Op) (request : Request) → HasTheSuperuser op request
 has_built_headers (op.Refused code) request caller cond lease source = tt
 has_built_headers _ request caller cond lease source = record { caller = caller; conditions = cond; lease = lease; source_lease = source }
 
+-- no operation that is built needs a lease id
+needs_no_id : (op : Op) (given : Option ℕ) → IsBuiltOperation op → HasLeaseId op given
+needs_no_id (op.Append path position flush retain action) given built = absurd built
+needs_no_id _ given built = tt
+
 -- a request with this caller and operation, and without conditions and lease ids
 pub ready_is_sound : (a : Asked) (request : Request) → IsReady a (length request.body) → request.op ≡ a.op → request.caller ≡ a.caller → IsSound request
 ready_is_sound a request ready op caller = record {
   caller = subst (λ o. HasCaller o request.caller) (sym op) (subst (λ c. HasCaller a.op c) (sym caller) (has_caller a.op a.caller ready.caller));
+  lease = subst (λ o. HasLeaseId o request.lease) (sym op) (needs_no_id a.op request.lease ready.op.built);
   operation = subst (λ o. IsOperation o (length request.body)) (sym op) ready.op.sound;
 }
 

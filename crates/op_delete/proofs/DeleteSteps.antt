@@ -1,11 +1,12 @@
 -- The model's step of a delete by the superuser, without conditions and lease ids.
-use Rattle.std.proofs.Common.{◌≡◌, ℕ, ◌==◌, ◌≤◌, Bool, true, false, cond, not, ◌&&◌, List, [], ◌∷◌, ◌++◌, length, Option, Some, None, unwrap_or, Ok, refl, sym, ap, ◌∙◌, arith}
+use Rattle.std.proofs.Common.{◌≡◌, ℕ, ◌==◌, ◌≤◌, Bool, true, false, cond, not, ◌&&◌, List, [], ◌∷◌, ◌++◌, length, Option, Some, None, Result, unwrap_or, Ok, refl, sym, ap, ◌∙◌, arith}
 use Rattle.std.proofs.lemmas.Bool.Decides.{nat_tests}
 use Rattle.acl_text.specs.Ids.{superuser}
 use Rattle.acl_text.specs.declared.who.Who.{Who}
 use Rattle.head_text.specs.Conditions.{no_conditions}
 use Rattle.head_text.specs.ConditionsOf.{conditions_of}
 use Rattle.namespace_model.specs.declared.code.Code.TheVariants.{PathNotFound, DirectoryNotEmpty, FilesystemNotFound}
+use Rattle.namespace_model.specs.declared.denied.Refusal.{Refusal}
 use Rattle.namespace_model.specs.declared.denied.Rule.TheVariants as rule
 use Rattle.namespace_model.specs.declared.reply.Reply.{Reply}
 use Rattle.namespace_model.specs.declared.request.Entry.{Entry}
@@ -27,8 +28,8 @@ use Rattle.op_delete.specs.Removals.{the_superuser}
 is_super : is_superuser the_superuser ≡ true
 is_super = same_bytes superuser
 
-decided_first : (c : Case) (cs : List Case) → c.applies ≡ true → decided (c ∷ cs) ≡ c.says
-decided_first c cs h = ap (λ b. cond b c.says (decided cs)) h
+decided_first : (c : Case) (cs : List Case) (last : Result Unit Refusal) → c.applies ≡ true → decided (c ∷ cs) last ≡ c.says
+decided_first c cs last h = ap (λ b. cond b c.says (decided cs last)) h
 
 others : List Case → List Case
 others [] = []
@@ -36,7 +37,7 @@ others (c ∷ cs) = cs
 
 all_allowed : (acl : List (Who × ℕ)) (owner group : List ℕ) (want : ℕ) → access_check acl owner group the_superuser want ≡ Ok tt
 unfolding access_check others
-all_allowed acl owner group want = decided_first (record { applies = is_superuser the_superuser; says = Ok tt }) (others (cases acl owner group the_superuser want)) is_super
+all_allowed acl owner group want = decided_first (record { applies = is_superuser the_superuser; says = Ok tt }) (others (cases acl owner group the_superuser want)) _ is_super
 
 lacks_none : (want : ℕ) (p : Path) (x : Node) → lacks the_superuser want p x ≡ None
 lacks_none want p x = ap (denied_by p want) (all_allowed x.acl.access x.owner x.group want)

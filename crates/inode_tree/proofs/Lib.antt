@@ -1,6 +1,10 @@
 pub mod Searches
 pub mod PlaceLemmas
 pub mod ChildLemmas
+pub mod PageLists
+pub mod PageLemmas
+pub mod PageSizes
+pub mod PageEdits
 pub mod MapLemmas
 pub mod DraftLemmas
 pub mod StripeLemmas

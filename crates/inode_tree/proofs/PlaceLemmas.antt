@@ -5,6 +5,7 @@ use Rattle.std.specs.declared.cmp.Ordering.{Ordering}
 use Rattle.std.specs.declared.cmp.Ordering.TheVariants.{Less, Equal, Greater}
 use Rattle.std.specs.Ordering.{is_lt}
 use Rattle.std.specs.Cmp.{IsTotalOrder, alike_right, tied_back}
+use Rattle.std.specs.List.{HoldsAt}
 use Rattle.std.specs.List.Sorted.{IsPartitionPoint}
 use Rattle.std.specs.FinMap.{find, put, is_sorted}
 use Rattle.std.specs.FinMap.Entries.{where_key, below_all, is_sorted-put, is_sorted-where_key}
@@ -57,6 +58,12 @@ module _ {K V : Type 0} (R : K → K → Ordering) (o : IsTotalOrder R) where
         removed = rw p (ap (λ r. e ∷ r) rest.removed);
         above = rw p rest.above;
       }
+
+  -- what is greater stands behind the entry of k
+  pub above_at : (k : K) (es : List (K × V)) (at : ℕ) → T (is_sorted R es) → at < length es → HoldsAt (λ e. R e.0 k ≡ Equal) es at
+      → where_key R (exceeds R k) es ≡ drop (suc at) es
+  above_at k [] at h within is = absurd (omega arith)
+  above_at k (e ∷ es) at h within is = (found_at k (e ∷ es) at e h within (is e)).above
 
   -- there is no entry of k, and it would stand at a place
   pub record Free (k : K) (es : List (K × V)) (at : ℕ) : Type 0 where

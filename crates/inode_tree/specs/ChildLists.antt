@@ -1,5 +1,5 @@
 -- The children of a directory as contracts see them: names with ids, ascending by name.
-use Rattle.std.specs.Prelude.{ℕ, Bool, true, List, Option, Some, None, IsTrue, slice_get}
+use Rattle.std.specs.Prelude.{ℕ, Bool, true, List, [], Option, Some, None, IsTrue, slice_get}
 use Rattle.std.specs.List.{filter}
 use Rattle.std.specs.declared.cmp.Ordering.{Ordering}
 use Rattle.std.specs.Ordering.{nat_cmp, is_lt}
@@ -10,10 +10,14 @@ use Rattle.std.specs.FinMap.{is_sorted}
 abbrev pub name_cmp : List ℕ → List ℕ → Ordering
 name_cmp = slice_cmp nat_cmp
 
--- the children, and how many more there is room for
+-- the children, how many more pages there is room for, and the pages that have the children one behind the other
 pub record ChildRecord : Type 0 where
   pub links : List (List ℕ × ℕ)
   pub spare : ℕ
+  pub pages : List (List (List ℕ × ℕ))
+
+abbrev pub no_children : ChildRecord
+no_children = record { links = []; spare = 0; pages = [] }
 
 -- each name is below those behind it
 abbrev pub AscendsByName : List (List ℕ × ℕ) → Type 0

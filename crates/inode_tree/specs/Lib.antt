@@ -1,6 +1,7 @@
 pub mod Rows
 pub mod Ascending
 pub mod ChildLists
+pub mod Pages
 pub mod Inodes
 pub mod Changes
 pub mod Stripes

@@ -1,41 +1,44 @@
-ghost use Rattle.std.specs.Prelude.{◌≡◌, ℕ, ◌+◌, ◌<◌, ◌≤◌, List, [], Option, option_map, length, filter, drop, IfOk, OnOk, OnErr, IsTrue, ◌↔◌, vec_capacity};
+ghost use Rattle.std.specs.Prelude.{◌≡◌, ℕ, List, [], Option, option_map, length, slice_get, IfOk, OnOk, OnErr, IsTrue, ◌↔◌};
 ghost use Rattle.std.specs.FinMap.{find, put};
 ghost use Rattle.std.specs.FinMap.Entries.{where_key};
-ghost use Rattle.inode_tree.specs.ChildLists.{ChildRecord, name_cmp, AscendsByName, first_above, is_above};
+ghost use Rattle.inode_tree.specs.ChildLists.{ChildRecord, no_children, name_cmp, AscendsByName, first_above};
+ghost use Rattle.inode_tree.specs.Pages.{ArePages, with_link, without_link};
 ghost use Rattle.inode_tree.specs.Ascending.{differs};
 ghost use Rattle.inode_tree.specs.declared.id.NodeId.{NodeId};
 
 use super::id::NodeId;
-use super::places::{place, put, take_out};
+use super::page::Page;
+use super::pages::{copied_pages, first_above, found, link, unlink};
 use path_text::Name;
 use std::alloc::{AllocError, Global};
 use std::marker::Model;
 
-/// The children of a directory. A contract sees the list of their names and ids, ascending by name, and how many more
-/// children there is room for.
+/// The children of a directory, in pages that several states of it share. A contract sees the list of their names and ids,
+/// ascending by name, the pages that have them one behind the other, and how many more pages there is room for.
 #[derive(Drop)]
 pub struct Children {
-    links: Vec<(Name, u64)>,
+    pages: Vec<Page>,
 }
 
 impl Model for Children {
     ghost use Rattle.std.specs.Prelude.{◌-◌, vec_len, vec_capacity};
-    ghost use Rattle.inode_tree.specs.ChildLists.{ChildRecord, AscendsByName};
+    ghost use Rattle.inode_tree.specs.ChildLists.{ChildRecord};
+    ghost use Rattle.inode_tree.specs.Pages.{ArePages, together};
 
     ghost Value = { ChildRecord };
 
-    ghost view = { λ c. record { links = c.links.items; spare = vec_capacity c.links - vec_len c.links } };
+    ghost view = { λ c. record { links = together c.pages.items; spare = vec_capacity c.pages - vec_len c.pages; pages = c.pages.items } };
 
-    ghost invariant = { λ c. AscendsByName c.links.items };
+    ghost invariant = { λ c. ArePages c.pages.items };
 }
 
 impl Children {
     /// No children. It takes no memory.
     pub fn new(alloc: Global) -> Children
-        ensures { result ≡ record { links = []; spare = 0 } }
+        ensures { result ≡ no_children }
     {
         Children {
-            links: Vec::new(alloc),
+            pages: Vec::new(alloc),
         }
     }
 
@@ -44,95 +47,69 @@ impl Children {
         ensures id { option_map (λ (id : NodeId). id.0) result ≡ find name_cmp name.now self.now.links }
         ensures ascends { AscendsByName self.now.links }
     {
-        match place(self.links.as_slice(), name) {
-            Ok(at) => Some(NodeId(self.links[at].1)),
-            Err(_) => None,
+        match found(self.pages.as_slice(), name) {
+            Some(id) => Some(NodeId(id)),
+            None => None,
         }
     }
 
     /// The first child whose name is greater than a name, and the first of all where none is given.
     pub fn above(&self, name: Option<&Name>) -> Option<(&Name, NodeId)>
-        ensures { option_map (λ c. (c.0.now, c.1.0)) result ≡ first_above (option_map (λ n. n.now) name.entry) self.now.links }
+        ensures child { option_map (λ c. (c.0.now, c.1.0)) result ≡ first_above (option_map (λ n. n.now) name.entry) self.now.links }
+        ensures ascends { AscendsByName self.now.links }
     {
-        let at = place_above(self.links.as_slice(), name);
-        if at < self.links.len() {
-            let link = &self.links[at];
-            return Some((&link.0, NodeId(link.1)));
+        match first_above(self.pages.as_slice(), name) {
+            Some(link) => Some((&link.0, NodeId(link.1))),
+            None => None,
         }
-        None
     }
 
     /// Whether there is no child.
     pub fn is_empty(&self) -> bool
-        ensures { IsTrue result ↔ (self.now.links ≡ []) }
+        ensures none { IsTrue result ↔ (self.now.links ≡ []) }
+        ensures ascends { AscendsByName self.now.links }
     {
-        self.links.len() == 0
+        self.pages.as_slice().is_empty()
     }
 
-    /// Makes room for one `link`. The one error is want of memory.
-    pub fn reserve(&mut self) -> Result<(), AllocError>
-        ensures room { OnOk result (0 < self.new.spare) }
-        ensures links { self.new.links ≡ self.old.links }
-        ensures spare { self.old.spare ≤ self.new.spare }
+    /// How many children a page has. It is `None` exactly where there is no page of this place, counted from 0.
+    pub fn page_len(&self, k: usize) -> Option<usize>
+        ensures len { result ≡ option_map length (slice_get self.now.pages k) }
+        ensures pages { ArePages self.now.pages }
     {
-        self.links.reserve(1)
-    }
-
-    /// Gives a name to a child. What had the name is replaced.
-    pub fn link(&mut self, name: Name, id: NodeId)
-        requires { 0 < self.old.spare }
-        ensures links { self.new.links ≡ put name_cmp name id.0 self.old.links }
-        ensures spare { self.old.spare ≤ self.new.spare + 1 }
-    {
-        match put(&mut self.links, name, id.0) {
-            Ok(()) => {}
-            Err(_) => unreachable!(),
+        if k < self.pages.len() {
+            return Some(self.pages[k].links().len());
         }
+        None
     }
 
-    /// Takes the child of a name away. Where there is none nothing changes.
-    pub fn unlink(&mut self, name: &Name)
-        ensures links { self.new.links ≡ where_key name_cmp (differs name_cmp name.now) self.old.links }
-        ensures spare { self.old.spare ≤ self.new.spare }
+    /// Gives a name to a child. What had the name is replaced. Only the page of the name is copied. The one error is want of
+    /// memory; then nothing changes.
+    pub fn link(&mut self, alloc: Global, name: Name, id: NodeId) -> Result<(), AllocError>
+        ensures pages { OnOk result (self.new.pages ≡ with_link name id.0 self.old.pages) }
+        ensures links { OnOk result (self.new.links ≡ put name_cmp name id.0 self.old.links) }
+        ensures refused { OnErr result (self.new ≡ self.old) }
     {
-        take_out(&mut self.links, name);
+        link(alloc, &mut self.pages, name, id.0)
     }
 
-    /// Other children with the same names and ids, and the same room. The one error is want of memory.
+    /// Takes the child of a name away. Where there is none nothing changes. Only the page of the name is copied, and one that
+    /// is joined with it. The one error is want of memory; then nothing changes.
+    pub fn unlink(&mut self, alloc: Global, name: &Name) -> Result<(), AllocError>
+        ensures pages { OnOk result (self.new.pages ≡ without_link name.now self.old.pages) }
+        ensures links { OnOk result (self.new.links ≡ where_key name_cmp (differs name_cmp name.now) self.old.links) }
+        ensures refused { OnErr result (self.new ≡ self.old) }
+    {
+        unlink(alloc, &mut self.pages, name)
+    }
+
+    /// Other children with the same names and ids in the same pages, which are shared, and the same room. The one error is want
+    /// of memory.
     pub fn copy(&self, alloc: Global) -> Result<Children, AllocError>
         ensures { IfOk result (λ children. children ≡ self.now) }
     {
         Ok(Children {
-            links: copied_links(alloc, &self.links)?,
+            pages: copied_pages(alloc, &self.pages)?,
         })
     }
-}
-
-// How many children's names are not greater than a name; none are where no name is given.
-fn place_above(links: &[(Name, u64)], name: Option<&Name>) -> usize
-    requires { AscendsByName links.now }
-    ensures { filter (λ child. is_above (option_map (λ n. n.now) name.entry) child.0) links.now ≡ drop result links.now }
-{
-    match name {
-        None => 0,
-        Some(name) => match place(links, name) {
-            Ok(at) => at + 1,
-            Err(at) => at,
-        },
-    }
-}
-
-fn copied_links(alloc: Global, links: &Vec<(Name, u64)>) -> Result<Vec<(Name, u64)>, AllocError>
-    ensures items { IfOk result (λ copied. copied.items ≡ links.now.items) }
-    ensures room { IfOk result (λ copied. vec_capacity copied ≡ vec_capacity links.now) }
-{
-    let mut copied = Vec::with_capacity(alloc, links.capacity())?;
-    for link in links.as_slice() {
-        let at = copied.len();
-        match copied.insert(at, (link.0.copy(alloc)?, link.1)) {
-            Ok(()) => {}
-            Err(_) => unreachable!(),
-        }
-    }
-    Ok(copied)
 }

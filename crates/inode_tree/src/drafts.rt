@@ -56,7 +56,7 @@ fn edited(alloc: Global, inode: Inode, asks: bool, change: &Change) -> Result<Dr
         Change::Unlink(_, name) => Ok(Some((
             Inode {
                 meta,
-                content: unlinked(content, name),
+                content: unlinked(alloc, content, name)?,
             },
             asks,
         ))),

@@ -21,8 +21,7 @@ pub(crate) fn linked(
 {
     match content {
         Content::Directory(mut children) => {
-            children.reserve()?;
-            children.link(name.copy(alloc)?, child);
+            children.link(alloc, name.copy(alloc)?, child)?;
             Ok(Content::Directory(children))
         }
         Content::File(file) => Ok(Content::File(file)),
@@ -30,15 +29,15 @@ pub(crate) fn linked(
 }
 
 // What an unlink makes of a content.
-pub(crate) fn unlinked(content: Content, name: &Name) -> Content
-    ensures { bare_content result ≡ unlinked name.now (bare_content content) }
+pub(crate) fn unlinked(alloc: Global, content: Content, name: &Name) -> Result<Content, AllocError>
+    ensures { IfOk result (λ after. bare_content after ≡ unlinked name.now (bare_content content)) }
 {
     match content {
         Content::Directory(mut children) => {
-            children.unlink(name);
-            Content::Directory(children)
+            children.unlink(alloc, name)?;
+            Ok(Content::Directory(children))
         }
-        Content::File(file) => Content::File(file),
+        Content::File(file) => Ok(Content::File(file)),
     }
 }
 

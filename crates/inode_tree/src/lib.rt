@@ -5,6 +5,9 @@
 //! bytes; an inode never changes once it can be looked at. `Stripe::reserve` makes ready what the changes of an entry make of
 //! the stripe's own nodes, and `Stripe::apply` puts it in with the number of the entry, and takes no memory.
 //!
+//! The children of a directory stand in pages of 1 to 256 names that several states of it share; an edit copies only the pages
+//! that it names. What edits make of the pages stands in `specs/Pages.antt`.
+//!
 //! A contract sees of an inode its meta, and the finite map of its children or its bytes and staged pieces, without the room
 //! that is made for later calls; of a stripe it sees the finite map from ids to such inodes, and what is ready. A caller
 //! may rely on this: after `apply` the part is the one before with the changes in their order, and after `reserve` it is
@@ -35,6 +38,8 @@ mod laws;
 mod meta;
 mod need;
 mod node_ref;
+mod page;
+mod pages;
 mod placed;
 mod places;
 mod stripe;

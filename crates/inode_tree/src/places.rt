@@ -1,4 +1,5 @@
-ghost use Rattle.std.specs.Prelude.{◌≡◌, ◌+◌, ◌<◌, ◌≤◌, length, IsTrue, IsOk, is_ok, vec_len, vec_capacity, if◌then◌else◌};
+ghost use Rattle.std.specs.Prelude.{◌≡◌, ◌+◌, ◌<◌, ◌≤◌, length, drop, IsTrue, IsOk, is_ok, vec_len, vec_capacity, if◌then◌else◌};
+ghost use Rattle.std.specs.Ordering.{is_lt};
 ghost use Rattle.std.specs.FinMap.{find, put, is_sorted};
 ghost use Rattle.std.specs.FinMap.Entries.{where_key};
 ghost use Rattle.inode_tree.specs.Ascending.{IsPlace, differs};
@@ -22,6 +23,18 @@ pub(crate) fn place<K: Ord, V>(entries: &[(K, V)], key: &K) -> Result<usize, usi
         }
     }
     Err(low)
+}
+
+// How many entries have a key that isn't greater than a key.
+pub(crate) fn place_above<K: Ord, V>(entries: &[(K, V)], key: &K) -> usize
+    requires { IsTrue (is_sorted K.cmp entries.now) }
+    ensures above { where_key K.cmp (λ other. is_lt (K.cmp key.now other)) entries.now ≡ drop result entries.now }
+    ensures within { result ≤ length entries.now }
+{
+    match place(entries, key) {
+        Ok(at) => at + 1,
+        Err(at) => at,
+    }
 }
 
 // Gives a key a value. The one error is want of memory, which there can't be where there is room; then nothing changes.

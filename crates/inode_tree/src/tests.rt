@@ -100,10 +100,9 @@ fn children_are_found_by_name(rt: HostRuntime) -> Result<(), Fail> {
         (b"/abc/a".as_slice(), 6),
         (b"/abc/m".as_slice(), 8),
     ] {
-        children.reserve()?;
-        children.link(name(alloc, text)?, NodeId(id));
+        children.link(alloc, name(alloc, text)?, NodeId(id))?;
     }
-    children.unlink(&name(alloc, b"/abc/z".as_slice())?);
+    children.unlink(alloc, &name(alloc, b"/abc/z".as_slice())?)?;
     let copied = children.copy(alloc)?;
     assert!(rt; !copied.is_empty());
     assert_eq!(rt;

@@ -1,7 +1,6 @@
 -- Who may do what with children of sticky directories, lists, owners and groups; and what a usual node shows.
 use Rattle.std.proofs.Common.{◌≡◌, ◌⊎◌, ◌↔◌, ℕ, Bool, true, false, ◌&&◌, ◌||◌, List, None, inl, inr, refl, sym, ap, subst, ◌∙◌}
-use Rattle.std.specs.Prelude.{bytes_eq, codes, Contains}
-use Rattle.std.specs.List.{list_any}
+use Rattle.std.specs.Prelude.{bytes_eq, Contains}
 use Rattle.std.specs.Cmp.Lexicographic.{nat_list_eq_equiv}
 use Rattle.std.proofs.lemmas.Bool.{false≢true, and_parts, and_from}
 use Rattle.std.proofs.lemmas.List.Folds.{Any-from_list_any}
@@ -9,11 +8,9 @@ use Rattle.std.proofs.lemmas.Map.Views.{list_any-from_Contains}
 use Rattle.std.proofs.lemmas.Slice.Eq.{bytes_eq-Decides}
 use Rattle.acl_text.specs.Ids.{superuser}
 use Rattle.acl_text.specs.declared.acl.AclPair.{AclPair}
-use Rattle.acl_text.specs.declared.who.Who.{Who}
 use Rattle.acl_text.specs.AclWriting.{permissions_text}
 use Rattle.namespace_model.specs.declared.caller.Caller.{Caller}
 use Rattle.namespace_model.specs.declared.op.Kind.{Kind}
-use Rattle.namespace_model.specs.declared.op.Kind.TheVariants.{File, Directory}
 use Rattle.namespace_model.specs.Access.{acl_inherit, belongs_to, inherited_from, may_set_access, may_set_group, may_set_owner, sticky_lets, usual_mode, usual_umask}
 
 or_parts : (a b : Bool) → (a || b) ≡ true → (a ≡ true) ⊎ (b ≡ true)

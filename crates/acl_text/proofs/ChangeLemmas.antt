@@ -1,6 +1,5 @@
 -- What changes of lists keep, and what they give to those whom a list names.
-use Rattle.std.proofs.Common.{◌≡◌, ◌⊎◌, ℕ, Bool, true, false, cond, not, ◌&&◌, ◌||◌, List, [], ◌∷◌, ◌++◌, length, Option, None, Some, is_some, unwrap_or, option_map, IfSome, Result, Ok, Err, inl, inr, refl, sym, ap, subst, ◌∙◌}
-use Rattle.std.specs.Prelude.{Any}
+use Rattle.std.proofs.Common.{◌≡◌, ◌⊎◌, ℕ, Bool, true, false, cond, not, ◌&&◌, ◌||◌, List, [], ◌∷◌, ◌++◌, length, Option, None, Some, is_some, unwrap_or, option_map, IfSome, Ok, Err, inl, inr, refl, sym, ap, subst, ◌∙◌}
 use Rattle.std.specs.List.{list_any}
 use Rattle.std.specs.Option.{option_map_or}
 use Rattle.std.specs.Ordering.{eq_by_cmp, is_eq, ordering_reverse}
@@ -16,15 +15,14 @@ use Rattle.acl_text.specs.declared.who.Who.{Who}
 use Rattle.acl_text.specs.declared.who.Who.TheVariants.{Owner, User, OwningGroup, Group, Mask, Other}
 use Rattle.acl_text.specs.declared.perm.ModeBits.{ModeBits}
 use Rattle.acl_text.specs.declared.acl.AclPair.{AclPair}
-use Rattle.acl_text.specs.declared.acl.AclFault.{AclFault}
 use Rattle.acl_text.specs.declared.acl.AclFault.TheVariants.{TooMany}
 use Rattle.acl_text.specs.Scopes.{in_scope}
 use Rattle.acl_text.specs.Whos.{who_cmp, is_mask}
 use Rattle.acl_text.specs.AclMaps.{AclMap, map_of, has_named, union_of, without_mask, masked}
 use Rattle.acl_text.specs.Acls.{IsAcl}
 use Rattle.acl_text.specs.AclTexts.{NoneRepeats, repeat_from, same_entry}
-use Rattle.acl_text.specs.AclChanges.{names, gives_mask, given_in, changed_scope, default_start, changed_default, is_over, pair_of, missing_in, set_where_complete, acl_modify, acl_set, names_item, lists, without, removed_scope, drops_default, removed_default, acl_remove, mode_set, acl_with_mode}
-use Rattle.acl_text.specs.AclFaults.{GivesTo, modified_access, modified_default, set_access, set_default}
+use Rattle.acl_text.specs.AclChanges.{names, gives_mask, given_in, changed_scope, default_start, changed_default, is_over, pair_of, missing_in, set_where_complete, acl_modify, acl_set, names_item, lists, without, removed_scope, drops_default, acl_remove, acl_with_mode}
+use Rattle.acl_text.specs.AclFaults.{GivesTo, modified_access, set_access, set_default}
 use Rattle.acl_text.specs.AclWriting.{access_bits}
 use Rattle.acl_text.specs.AclLaws.{HasComputedMask, HasWhatItSays, IsAclPair, KeepsTheRest, Says}
 use Rattle.acl_text.proofs.WhoLemmas.{who_cmp_total}

@@ -1,5 +1,5 @@
 -- What an entry's text spells is read, and what is read is spelled so.
-use Rattle.std.proofs.Common.{◌≡◌, ◌⊎◌, ℕ, suc, ◌+◌, ◌-◌, ◌==◌, ◌<◌, Bool, true, false, cond, nat_lt, bytes_eq, codes, List, [], ◌∷◌, ◌++◌, length, slice_index, take, drop, Option, None, Some, option_and_then, inl, inr, refl, sym, ap, subst, ◌∙◌, arith, length-append}
+use Rattle.std.proofs.Common.{◌≡◌, ◌⊎◌, ℕ, suc, ◌+◌, ◌-◌, ◌==◌, ◌<◌, true, false, cond, nat_lt, bytes_eq, codes, List, [], ◌∷◌, ◌++◌, length, slice_index, take, drop, Option, None, Some, option_and_then, inl, inr, refl, sym, ap, subst, ◌∙◌, arith, length-append}
 use Rattle.std.proofs.lemmas.Bool.{false≢true}
 use Rattle.std.proofs.lemmas.Bool.Decides.{nat_tests, Decides-eqb}
 use Rattle.std.proofs.lemmas.Slice.Eq.{bytes_eq-Decides}

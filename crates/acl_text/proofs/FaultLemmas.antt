@@ -1,13 +1,12 @@
 -- When setting and modifying entries is refused.
-use Rattle.std.proofs.Common.{◌≡◌, ◌⊎◌, ℕ, zero, suc, ◌<◌, Bool, true, false, cond, ◌&&◌, ◌||◌, nat_lt, List, [], ◌∷◌, length, Option, None, Some, is_some, option_map, Result, Ok, Err, inl, inr, refl, sym, ap, subst, ◌∙◌, arith}
+use Rattle.std.proofs.Common.{◌≡◌, ◌⊎◌, ℕ, zero, suc, ◌<◌, Bool, true, false, cond, ◌&&◌, ◌||◌, nat_lt, List, [], ◌∷◌, Option, None, Some, is_some, option_map, Result, Ok, Err, inl, inr, refl, sym, ap, subst, ◌∙◌, arith}
 use Rattle.std.specs.Prelude.{Any}
-use Rattle.std.specs.List.{list_any}
 use Rattle.std.specs.Option.{option_map_or}
 use Rattle.std.specs.Ordering.{eq_by_cmp, is_eq}
 use Rattle.std.specs.declared.cmp.Ordering.{Ordering}
 use Rattle.std.specs.declared.cmp.Ordering.TheVariants.{Less, Equal, Greater}
 use Rattle.std.specs.FinMap as fin
-use Rattle.std.proofs.lemmas.Bool.{false≢true, and_parts, and_from}
+use Rattle.std.proofs.lemmas.Bool.{false≢true, and_parts}
 use Rattle.std.proofs.lemmas.Bool.Decides.{nat_tests}
 use Rattle.std.proofs.lemmas.Cmp.{tied_itself}
 use Rattle.acl_text.specs.declared.scope.Scope.{Scope}
@@ -20,8 +19,8 @@ use Rattle.acl_text.specs.declared.acl.AclFault.TheVariants.{BadEntry, Twice, Mi
 use Rattle.acl_text.specs.Scopes.{in_scope}
 use Rattle.acl_text.specs.Whos.{who_cmp}
 use Rattle.acl_text.specs.AclMaps.{AclMap}
-use Rattle.acl_text.specs.AclChanges.{given_in, is_over, pair_of, missing_in, set_where_complete, acl_modify, acl_set}
-use Rattle.acl_text.specs.AclFaults.{GivesTo, GivesBase, IsFirstMissing, IsOverfull, IsModifyFault, IsSetFault, modified_access, modified_default, set_access, set_default}
+use Rattle.acl_text.specs.AclChanges.{given_in, is_over, pair_of, set_where_complete, acl_modify, acl_set}
+use Rattle.acl_text.specs.AclFaults.{GivesTo, IsOverfull, IsModifyFault, IsSetFault, modified_access, modified_default, set_access, set_default}
 use Rattle.acl_text.proofs.WhoLemmas.{who_cmp_total, who_cmp-IsAntisymmetric}
 use Rattle.acl_text.proofs.LawLemmas.{last_in, or_else, get-given_in, own_scope}
 

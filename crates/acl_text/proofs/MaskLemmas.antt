@@ -1,8 +1,7 @@
 -- The mask that the entries of a list need.
-use Rattle.std.proofs.Common.{◌≡◌, ◌⊎◌, ◌↔◌, ℕ, zero, suc, ◌<◌, max, Bool, true, false, cond, not, ◌||◌, bit_or, List, [], ◌∷◌, map, filter, fold, Option, None, Some, is_some, option_map, IsSome, IfSome, IsTrue, Ok, Err, inl, inr, refl, sym, ap, subst, ◌∙◌, arith}
+use Rattle.std.proofs.Common.{◌≡◌, ◌⊎◌, ◌↔◌, ℕ, zero, suc, ◌<◌, max, true, false, cond, not, bit_or, List, [], ◌∷◌, map, filter, fold, None, Some, is_some, IsTrue, inl, inr, refl, sym, ap, subst, ◌∙◌, arith}
 use Rattle.std.specs.Prelude.{Any, IsBitSet}
 use Rattle.std.specs.Int.{bit_at}
-use Rattle.std.specs.List.{list_any}
 use Rattle.std.specs.Ordering.{is_eq}
 use Rattle.std.specs.FinMap as fin
 use Rattle.std.specs.FinMap.{find}
@@ -12,7 +11,7 @@ use Rattle.std.proofs.lemmas.Nat.{bit_set_by_shift}
 use Rattle.std.proofs.lemmas.Nat.Bits.{shr_and_one, bit_at_or, bit_at-lt}
 use Rattle.acl_text.specs.declared.who.Who.{Who}
 use Rattle.acl_text.specs.declared.who.Who.TheVariants.{Mask}
-use Rattle.acl_text.specs.Whos.{who_cmp, is_limited, is_mask, is_named}
+use Rattle.acl_text.specs.Whos.{who_cmp, is_limited, is_mask}
 use Rattle.acl_text.specs.AclMaps.{AclMap, has_named, union_of, without_mask, masked}
 use Rattle.acl_text.specs.AclLaws.{HasComputedMask}
 use Rattle.acl_text.proofs.WhoLemmas.{who_cmp_total}

@@ -1,6 +1,6 @@
 -- The texts of access control lists, after Microsoft's documentation of access control in Azure Data Lake Storage Gen2:
 -- entries `[default:]type:id:perms`, joined by commas.
-use Rattle.std.specs.Prelude.{◌≡◌, ◌⊎◌, ℕ, ◌+◌, ◌-◌, ◌<◌, ◌≤◌, Bool, true, false, ◌==◌, ◌&&◌, IsTrue, bytes_eq, nat_lt, List, [], ◌∷◌, ◌++◌, length, take, drop, codes, slice_index, Option, Some, None, is_none, Result, Ok, Err, if◌then◌else◌}
+use Rattle.std.specs.Prelude.{◌≡◌, ◌⊎◌, ℕ, ◌+◌, ◌-◌, ◌<◌, ◌≤◌, Bool, ◌==◌, ◌&&◌, IsTrue, bytes_eq, nat_lt, List, [], ◌∷◌, ◌++◌, length, take, drop, codes, slice_index, Option, Some, None, is_none, Result, Ok, Err, if◌then◌else◌}
 use Rattle.std.specs.List.{filter_map, list_any, position_from, join_with_byte, slice_split, AllByRecursion}
 use Rattle.std.specs.Ordering.{eq_by_cmp}
 use Rattle.acl_text.specs.declared.scope.Scope.{Scope}

@@ -1,6 +1,5 @@
 -- The lines of a reply stand in order, and an entry makes few nodes.
-use Rattle.std.proofs.Common.{◌≡◌, ℕ, suc, ◌≤◌, ◌+◌, Bool, true, false, cond, ◌==◌, List, [], ◌∷◌, ◌++◌, map, length, drop, length-drop, Option, Some, None, is_none, Ok, lit≤, refl, ap, sym, subst, ◌∙◌, arith}
-use Rattle.acl_text.specs.AclWriting.{acl_text}
+use Rattle.std.proofs.Common.{◌≡◌, ℕ, suc, ◌≤◌, ◌+◌, Bool, true, false, cond, ◌==◌, List, [], ◌∷◌, ◌++◌, map, length, drop, length-drop, Option, Some, None, lit≤, refl, ap, sym, subst, ◌∙◌, arith}
 use Rattle.lease_state.specs.declared.lease.AppendLease.{AppendLease}
 use Rattle.lease_state.specs.declared.lease.AppendLease.TheVariants as append
 use Rattle.lease_state.specs.declared.lease.Lease.{Lease}
@@ -11,16 +10,13 @@ use Rattle.lease_state.specs.declared.lease.State.TheVariants as state
 use Rattle.lease_state.specs.LeaseTable.{lease_state, kept_secs}
 use Rattle.namespace_model.specs.declared.field.Field.{Field}
 use Rattle.namespace_model.specs.declared.field.Field.TheVariants as field
-use Rattle.namespace_model.specs.declared.field.Media.TheVariants.{Octets}
-use Rattle.namespace_model.specs.declared.op.Kind.TheVariants.{File}
 use Rattle.namespace_model.specs.declared.op.Op.{Op}
-use Rattle.namespace_model.specs.declared.op.Op.TheVariants as op
 use Rattle.namespace_model.specs.declared.reply.Reply.{Reply}
 use Rattle.namespace_model.specs.declared.request.Entry.{Entry}
 use Rattle.namespace_model.specs.Append.{flush_fields, append_lease_fields}
 use Rattle.namespace_model.specs.Create.{Making, new_directory, new_nodes}
 use Rattle.namespace_model.specs.Effects.{Put}
-use Rattle.namespace_model.specs.GetProperties.{length_fields, user_fields, access_fields}
+use Rattle.namespace_model.specs.GetProperties.{length_fields, user_fields}
 use Rattle.namespace_model.specs.LeaseNode.{action_fields}
 use Rattle.namespace_model.specs.Lines.{line_place, AscendFrom, AreInOrder, open_tag, open_tags}
 use Rattle.namespace_model.specs.Nodes.{Node, Content, directory, file}

@@ -1,10 +1,9 @@
 -- A step that succeeds puts the nodes that it names, and its reply tells what is so.
-use Rattle.std.proofs.Common.{IsOk, ◌≡◌, ◌⊎◌, inl, inr, ℕ, suc, ◌≤◌, Bool, true, false, cond, List, [], ◌∷◌, ◌++◌, map, length, drop, Option, Some, None, is_some, Result, Ok, Err, lit≤, refl, ap, sym, subst, ◌∙◌, append_assoc, append-nil, arith}
+use Rattle.std.proofs.Common.{IsOk, ◌≡◌, ◌⊎◌, inl, inr, ℕ, suc, ◌≤◌, Bool, true, false, cond, List, [], ◌∷◌, ◌++◌, length, drop, Option, Some, None, is_some, Result, Ok, Err, lit≤, refl, ap, sym, subst, ◌∙◌, append_assoc, arith}
 use Rattle.std.proofs.lemmas.Bool.{false≢true}
 use Rattle.acl_text.specs.declared.acl.AclPair.{AclPair}
 use Rattle.lease_state.specs.declared.lease.AppendLease.{AppendLease}
 use Rattle.lease_state.specs.declared.lease.Lease.{Lease}
-use Rattle.namespace_model.specs.declared.caller.Caller.{Caller}
 use Rattle.namespace_model.specs.declared.code.Code.{Code}
 use Rattle.namespace_model.specs.declared.field.Field.{Field}
 use Rattle.namespace_model.specs.declared.field.Field.TheVariants as field
@@ -15,9 +14,9 @@ use Rattle.namespace_model.specs.declared.op.Op.{Op}
 use Rattle.namespace_model.specs.declared.op.Op.TheVariants as op
 use Rattle.namespace_model.specs.declared.reply.Reply.{Reply}
 use Rattle.namespace_model.specs.declared.request.Entry.{Entry}
-use Rattle.namespace_model.specs.Append.{append_put, append_lease_fields, flush_fields}
+use Rattle.namespace_model.specs.Append.{append_lease_fields, flush_fields}
 use Rattle.namespace_model.specs.Create.{Making, new_directory, new_nodes}
-use Rattle.namespace_model.specs.Effects.{Effect, Put, put_by, stamp, keep, effected, put_all, take_all, moved_by, nothing}
+use Rattle.namespace_model.specs.Effects.{Effect, Put, put_by, keep, effected, put_all, take_all, moved_by, nothing}
 use Rattle.namespace_model.specs.LeaseNode.{action_fields}
 use Rattle.namespace_model.specs.Lines.{line_place, AscendFrom}
 use Rattle.namespace_model.specs.Locality.{Among}
@@ -31,8 +30,8 @@ use Rattle.namespace_model.specs.Shapes.{put_at, put_paths}
 use Rattle.namespace_model.specs.Sound.{IsSound, IsOperation}
 use Rattle.namespace_model.specs.Stamps.{stamps, HasStamp, IsStamp, IsRightPut}
 use Rattle.namespace_model.specs.Step.{root_of, acts, outcome, step, closing}
-use Rattle.namespace_model.specs.Told.{told_of, IsAtPath, IsOfNode, IsTold, AreTold}
-use Rattle.namespace_model.specs.Trees.{Path, Tree, at, node_at, parent, IsTree}
+use Rattle.namespace_model.specs.Told.{told_of, IsAtPath, IsTold, AreTold}
+use Rattle.namespace_model.specs.Trees.{Path, Tree, at, node_at, IsTree}
 use Rattle.namespace_model.proofs.LineLaws.{append_lease_lines, success_lines}
 use Rattle.namespace_model.proofs.Lookups.{same_path}
 use Rattle.namespace_model.proofs.Prefixes.{parent_name}
@@ -40,7 +39,7 @@ use Rattle.namespace_model.proofs.Effected.{drop_front, put_or, at-put_all}
 use Rattle.namespace_model.proofs.RenameLaw.{renames_move}
 use Rattle.namespace_model.proofs.ShapedMaking.{paths_of}
 use Rattle.namespace_model.proofs.ShapedMoving.{long_path}
-use Rattle.namespace_model.proofs.StepComes.{Comes, IsRefused, is_refused, succeeds, acts_come}
+use Rattle.namespace_model.proofs.StepComes.{Comes, is_refused, succeeds, acts_come}
 use Rattle.namespace_model.proofs.StepStamps.{outcome_stamps}
 use Rattle.namespace_model.proofs.SuccessReplies.{no_code}
 use Rattle.namespace_model.proofs.Successes.{IsBase, IsSuccess, a_filesystem_is_made, a_filesystem_is_shown, a_filesystem_is_set, a_filesystem_goes, filesystems_are_listed, paths_are_listed, nodes_are_made, a_node_moves, a_file_is_read, a_part_is_read, properties_are_shown, access_is_shown, a_right_is_there, a_file_is_appended_to, a_file_is_flushed, properties_are_set, access_is_set, a_batch_is_done, a_lease_is_acted_on, nodes_go}

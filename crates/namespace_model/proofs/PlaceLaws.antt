@@ -1,16 +1,12 @@
 -- A step that denies access denies it at one of the places where it asks, for what it wants there.
-use Rattle.std.proofs.Common.{◌≡◌, ◌⊎◌, inl, inr, ℕ, Bool, true, false, ◌&&◌, nat_lt, ◌+◌, suc, List, [], ◌∷◌, ◌++◌, length, Option, Some, None, is_some, Result, Ok, Err, refl, ap, sym, subst, ◌∙◌, append_assoc, arith}
+use Rattle.std.proofs.Common.{◌≡◌, ◌⊎◌, inl, inr, ℕ, Bool, true, false, nat_lt, ◌+◌, suc, List, [], ◌∷◌, ◌++◌, length, Option, Some, None, Result, Ok, Err, refl, ap, sym, subst, ◌∙◌, append_assoc, arith}
 use Rattle.std.proofs.lemmas.Bool.{false≢true}
 use Rattle.std.proofs.lemmas.Bool.Decides.{nat_tests}
 use Rattle.std.specs.Prelude.{IfSome}
-use Rattle.path_text.specs.Paths.{is_prefix}
-use Rattle.namespace_model.specs.declared.caller.Caller.{Caller}
 use Rattle.namespace_model.specs.declared.denied.Denied.{Denied}
 use Rattle.namespace_model.specs.declared.denied.Refusal.{Refusal}
 use Rattle.namespace_model.specs.declared.denied.Rule.{Rule}
 use Rattle.namespace_model.specs.declared.denied.Rule.TheVariants as rule
-use Rattle.namespace_model.specs.declared.op.Op.{Op}
-use Rattle.namespace_model.specs.declared.reply.Reply.{Reply}
 use Rattle.namespace_model.specs.declared.request.Entry.{Entry}
 use Rattle.namespace_model.specs.Access.{access_check, is_superuser, sticky_lets, may_set_access, may_set_owner, may_set_group}
 use Rattle.namespace_model.specs.DenialPlaces.{walks_to, IsAboveOnTheWay, IsWantedAt, passing, IsPlacedBy, DeniesInPlace, IsSetBy}

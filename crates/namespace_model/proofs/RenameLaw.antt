@@ -8,7 +8,6 @@ use Rattle.namespace_model.specs.declared.code.Code.{Code}
 use Rattle.namespace_model.specs.declared.code.Code.TheVariants as code
 use Rattle.namespace_model.specs.declared.op.Op.TheVariants as op
 use Rattle.namespace_model.specs.declared.reply.Reply.{Reply}
-use Rattle.namespace_model.specs.declared.caller.Caller.{Caller}
 use Rattle.namespace_model.specs.declared.denied.Refusal.{Refusal}
 use Rattle.namespace_model.specs.declared.denied.Rule.{Rule}
 use Rattle.head_text.specs.declared.conditions.Unmet.{Unmet}

@@ -1,5 +1,5 @@
 -- The reply of a success has no code and no denial, and its status is no denial's.
-use Rattle.std.proofs.Common.{◌≡◌, ℕ, Bool, false, ◌==◌, List, [], Option, None, Ok, refl, ap, ◌∙◌}
+use Rattle.std.proofs.Common.{◌≡◌, false, ◌==◌, None, refl, ap, ◌∙◌}
 use Rattle.lease_state.specs.declared.lease.LeaseAction.{LeaseAction}
 use Rattle.lease_state.specs.declared.lease.LeaseAction.TheVariants as action
 use Rattle.namespace_model.specs.declared.reply.Reply.{Reply}

@@ -1,5 +1,5 @@
 -- What a step comes to where nothing refuses it.
-use Rattle.std.proofs.Common.{◌≡◌, ◌⊎◌, ℕ, Bool, List, [], ◌∷◌, ◌++◌, Option, Some}
+use Rattle.std.proofs.Common.{◌≡◌, ℕ, Bool, List, [], ◌++◌, Option, Some}
 use Rattle.acl_text.specs.declared.acl.AclPair.{AclPair}
 use Rattle.acl_text.specs.declared.perm.ModeBits.{ModeBits}
 use Rattle.acl_text.specs.declared.scope.Scope.{Scope}

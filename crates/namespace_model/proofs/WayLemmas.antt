@@ -1,5 +1,5 @@
 -- The way: how its end lies on the tree, and what is read of its last directory.
-use Rattle.std.proofs.Common.{◌≡◌, inl, inr, ℕ, Bool, true, false, cond, List, [], ◌∷◌, ◌++◌, Option, Some, None, unwrap_or, Result, Ok, Err, refl, ap, sym, subst, ◌∙◌, append_assoc, append-nil}
+use Rattle.std.proofs.Common.{◌≡◌, inl, inr, ℕ, Bool, true, false, cond, List, [], ◌∷◌, ◌++◌, Option, Some, None, unwrap_or, Result, Ok, Err, refl, ap, sym, subst, append_assoc, append-nil}
 use Rattle.namespace_model.specs.declared.caller.Caller.{Caller}
 use Rattle.namespace_model.specs.declared.denied.Refusal.{Refusal}
 use Rattle.namespace_model.specs.Nodes.{Node, is_directory, blank}

@@ -9,7 +9,7 @@
 --   6  the lease                                  LeaseIdMissing and the other codes of writes         lease_refuses
 --   7  no default entries for a file              InvalidAcl                                           refuse_if
 --   8  the node is put, stamped                   none                                                 access_put
-use Rattle.std.specs.Prelude.{ℕ, Bool, true, false, not, ◌&&◌, List, Option, Some, None, Result, Ok, Err, unwrap_or}
+use Rattle.std.specs.Prelude.{ℕ, Bool, false, not, ◌&&◌, List, Option, Some, None, Result, Ok, Err, unwrap_or}
 use Rattle.acl_text.specs.declared.scope.Scope.{Scope}
 use Rattle.acl_text.specs.declared.scope.Scope.TheVariants.{Default}
 use Rattle.acl_text.specs.declared.who.Who.{Who}

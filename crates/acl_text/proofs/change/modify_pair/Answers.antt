@@ -1,4 +1,4 @@
-use Rattle.std.proofs.Common.{false, IfSome, sym, subst}
+use Rattle.std.proofs.Common.{IfSome, sym, subst}
 use Rattle.acl_text.specs.declared.scope.Scope.TheVariants.{Access}
 use Rattle.acl_text.specs.Acls.{IsComplete}
 use Rattle.acl_text.proofs.AclLemmas.{IsComplete-changed_scope, IsComplete-changed_default}

@@ -1,4 +1,4 @@
-use Rattle.std.proofs.Common.{false, is_ok, ap, ◌∙◌, IfSome, sym, subst}
+use Rattle.std.proofs.Common.{is_ok, ap, ◌∙◌, IfSome, sym, subst}
 use Rattle.acl_text.specs.AclChanges.{pair_of}
 use Rattle.acl_text.specs.declared.scope.Scope.TheVariants.{Access}
 use Rattle.acl_text.specs.Acls.{IsComplete}

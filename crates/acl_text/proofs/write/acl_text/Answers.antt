@@ -1,5 +1,5 @@
 use Rattle.std.proofs.Common.{[], fold, ap, ◌∙◌}
-use Rattle.acl_text.specs.declared.scope.Scope.TheVariants.{Access, Default}
+use Rattle.acl_text.specs.declared.scope.Scope.TheVariants.{Access}
 use Rattle.acl_text.specs.AclWriting.{with_entry, scoped, default_entries}
 use Rattle.acl_text.proofs.WriteLemmas.{written}
 use Rattle.acl_text.proofs.write.acl_text.Goals as goal

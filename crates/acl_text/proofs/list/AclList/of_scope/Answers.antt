@@ -1,4 +1,4 @@
-use Rattle.std.proofs.Common.{sym, subst, ap, ◌∙◌}
+use Rattle.std.proofs.Common.{sym, subst}
 use Rattle.acl_text.specs.Scopes.{in_scope}
 use Rattle.acl_text.specs.Held.{AreWritable}
 use Rattle.acl_text.proofs.ListLemmas.{all_filtered}

@@ -13,13 +13,14 @@ use Rattle.std.proofs.lemmas.Slice.Eq.{bytes_eq-Decides}
 use Rattle.std.proofs.lemmas.Str.{IsUtf8-nil, IsUtf8-from_is_utf8, is_utf8-from_IsUtf8, utf8_valid_len_le, utf8_valid_len-IsUtf8, utf8_valid_len-IsValidUpTo}
 use Rattle.path_text.specs.declared.fault.PathFault.{PathFault}
 use Rattle.path_text.specs.declared.fault.PathFault.TheVariants.{BadEscape, NotUtf8, EmptyName, DotName, NameTooLong, PathTooLong, TooDeep, ControlByte, BadFsName}
-use Rattle.path_text.specs.Names.{is_fs_name}
-use Rattle.path_text.specs.Texts.{BeginsWithSlash, are_parts, inner, is_control, is_dots, is_name, is_slash, or_else, part_fault, parts_fault, size_fault, split_parts, text_fault, without_end}
+use Rattle.path_text.specs.Names.{are_parts, is_control, is_dots, is_fs_name, is_name, is_slash}
+use Rattle.path_text.specs.Texts.{BeginsWithSlash, inner, or_else, part_fault, parts_fault, size_fault, split_parts, text_fault, without_end}
 use Rattle.path_text.specs.Faults.{AreSplit, IsBetween, IsFaultOfParts, IsFirst, IsFirstPartFault, IsPartFault, IsPathFault, IsPlainText, IsShortText}
 use Rattle.path_text.proofs.PlaceLemmas.{chosen_some}
-use Rattle.path_text.proofs.WrittenLemmas.{both_parts}
+use Rattle.path_text.proofs.PlaceLemmas.{both_parts}
 use Rattle.path_text.proofs.ReadLemmas.{inner_of_ended, not_zero, nowhere, parts_are_fine}
-use Rattle.path_text.proofs.GrammarLemmas.{ends_in_slash, found_nowhere, parts_where_fine, utf8_where_valid}
+use Rattle.path_text.proofs.GrammarLemmas.{ends_in_slash, found_nowhere, parts_are_texts, parts_where_fine, utf8_where_valid}
+use Rattle.path_text.proofs.NameLemmas.{AreTexts, dots_are_short, texts_front}
 use Rattle.path_text.proofs.SplitLemmas.{pieces_have_none, split_join}
 
 -- ---- the first place of a byte
@@ -106,17 +107,6 @@ valid_where text e =
 
 some_is : (a b : PathFault) → Some a ≡ Some b → a ≡ b
 some_is a b e = cc
-
-either : (a b : Bool) → (a || b) ≡ true → (a ≡ true) ⊎ (b ≡ true)
-either true b e = inl refl
-either false b e = inr e
-
-dots_are_short : (part : List ℕ) → is_dots part ≡ true → (0 < length part) × (length part ≤ 2)
-dots_are_short part e =
-    ⊎_elim
-    (λ one. let same : length part ≡ 1 = ap length ((bytes_eq-Decides part (46 ∷ [])).0 one) in (omega arith, omega arith))
-    (λ two. let same : length part ≡ 2 = ap length ((bytes_eq-Decides part (46 ∷ 46 ∷ [])).0 two) in (omega arith, omega arith))
-    (either (bytes_eq part (46 ∷ [])) (bytes_eq part (46 ∷ 46 ∷ [])) e)
 
 pub no_length : (part : List ℕ) → eqb (length part) 0 ≡ true → part ≡ []
 no_length [] e = refl
@@ -221,22 +211,16 @@ found_is start (first ∷ front) part back f before here =
     none_of None b e = (refl, e)
     none_of (Some g) b e = cc
 
-front_of : (front back : List (List ℕ)) → list_all (list_all (λ b. not (is_slash b))) (front ++ back) ≡ true → list_all (list_all (λ b. not (is_slash b))) front ≡ true
-front_of front back e =
-    (both_parts (list_all (list_all (λ b. not (is_slash b))) front) (list_all (list_all (λ b. not (is_slash b))) back)
-    (sym (list_all-append (list_all (λ b. not (is_slash b))) front back) ∙ e)).0
-
-first_of_parts : (parts : List (List ℕ)) (f : PathFault) → list_all (list_all (λ b. not (is_slash b))) parts ≡ true → parts_fault 0 parts ≡ Some f → IsFirstPartFault parts f
-first_of_parts parts f plain e =
+first_of_parts : (parts : List (List ℕ)) (f : PathFault) → AreTexts parts → parts_fault 0 parts ≡ Some f → IsFirstPartFault parts f
+first_of_parts parts f are e =
     let at = found 0 parts f e in
-    let fronts = front_of at.front (at.part ∷ at.back) (ap (list_all (list_all (λ b. not (is_slash b)))) (sym at.parted) ∙ plain) in
     let place : length at.front ≡ 0 + length at.front = omega arith in
     record {
       front = at.front;
       part = at.part;
       back = at.back;
       parted = at.parted;
-      before = parts_where_fine at.front at.before fronts;
+      before = parts_where_fine at.front at.before (texts_front at.front (at.part ∷ at.back) (subst AreTexts at.parted are));
       here = fault_of_part (length at.front) at.part f (ap (λ n. part_fault n at.part) place ∙ at.here);
     }
 
@@ -307,10 +291,6 @@ split_is rest [] e = ap split_parts e
 split_is rest (part ∷ parts) h =
     ap (λ t. cond t [] (slice_split is_slash rest)) (not_zero (length rest) h.0) ∙ ap (slice_split is_slash) h.1 ∙ split_join is_slash 47 refl part parts h.2
 
-split_plain : (rest : List ℕ) (parts : List (List ℕ)) → AreSplit rest parts → list_all (list_all (λ b. not (is_slash b))) parts ≡ true
-split_plain rest [] e = refl
-split_plain rest (part ∷ parts) h = h.2
-
 -- ---- a fault of a text is stated on its bytes
 
 of_parts : (text : List ℕ) (f : PathFault) → IsFaultOfParts text f → IsPathFault text f
@@ -348,7 +328,7 @@ fault_of_size text f plain e =
           parts = parts;
           text_is = short_text text plain short;
           shallow = within 60 (length parts) shallow;
-          first = first_of_parts parts f (split_plain (inner text) parts (splits (inner text))) (subst (λ (t : Bool). cond t (Some TooDeep) (parts_fault 0 parts) ≡ Some f) shallow e);
+          first = first_of_parts parts f (parts_are_texts text (slash_of text plain.slash) plain.utf8 plain.no_control) (subst (λ (t : Bool). cond t (Some TooDeep) (parts_fault 0 parts) ≡ Some f) shallow e);
         }))
         (cases_Bool (ltb 60 (length parts)))
 

@@ -12,9 +12,10 @@ use Rattle.std.proofs.lemmas.Str.{IsUtf8-nil, IsUtf8-from_is_utf8, IsUtf8-take, 
 use Rattle.std.proofs.Math.Seq.{take-append_seam}
 use Rattle.path_text.specs.declared.fault.PathFault.{PathFault}
 use Rattle.path_text.specs.declared.fault.PathFault.TheVariants.{BadFsName, ControlByte, DotName, EmptyName, NameTooLong, PathTooLong, TooDeep}
-use Rattle.path_text.specs.Names.{is_fs_name}
-use Rattle.path_text.specs.Texts.{is_byte, is_control, is_dots, is_name, is_slash, are_parts, path_text, KeepsLimits, Spells, inner, split_parts, part_fault, parts_fault, or_else, utf8_fault, size_fault, text_fault, plain_path, path_or_fault}
-use Rattle.path_text.proofs.WrittenLemmas.{both_parts}
+use Rattle.path_text.specs.Names.{are_parts, is_control, is_dots, is_fs_name, is_name, is_slash}
+use Rattle.path_text.specs.Texts.{is_byte, path_text, KeepsLimits, Spells, inner, split_parts, part_fault, parts_fault, or_else, utf8_fault, size_fault, text_fault, plain_path, path_or_fault}
+use Rattle.path_text.proofs.PlaceLemmas.{both_parts}
+use Rattle.path_text.proofs.NameLemmas.{AreTexts, before_slash, behind_slash, joined_texts, name_from}
 use Rattle.path_text.proofs.PlaceLemmas.{place_is_end}
 use Rattle.path_text.proofs.SplitLemmas.{pieces_have_none}
 
@@ -91,13 +92,6 @@ pub utf8_where_valid : (text : List ℕ) → utf8_valid_len text ≡ length text
 unfolding utf8_valid_len
 utf8_where_valid text e = valid_at text (length text) refl e
 
-pub slash_is_utf8 : IsUtf8 (47 ∷ [])
-slash_is_utf8 = subst (λ (t : List ℕ). IsUtf8 t) (encode_ascii 47 (lit< tt)) (IsUtf8-encode 47 refl)
-
-utf8_before_slash : (text : List ℕ) → IsUtf8 (text ++ 47 ∷ []) → IsUtf8 text
-utf8_before_slash text u =
-    subst (λ (t : List ℕ). IsUtf8 t) (take-append_seam text (47 ∷ [])) (IsUtf8-take (text ++ 47 ∷ []) (length text) u (IsCharBoundary-at_seam (text ++ 47 ∷ []) text (47 ∷ []) refl slash_is_utf8))
-
 -- ---- the parts
 
 not_empty : (n : ℕ) → eqb n 0 ≡ false → nat_le 1 n ≡ true
@@ -109,29 +103,39 @@ not_long n k e = grind (arith, nat_tests)
 above_zero : (place : ℕ) → 0 < place → eqb place 0 ≡ false
 above_zero place e = grind (arith, nat_tests)
 
-is_name_where_fine : (place : ℕ) (part : List ℕ) → 0 < place → part_fault place part ≡ None → list_all (λ b. not (is_slash b)) part ≡ true → is_name part ≡ true
-is_name_where_fine place part below e plain =
+is_name_where_fine : (place : ℕ) (part : List ℕ) → 0 < place → part_fault place part ≡ None → list_all (λ b. not (is_slash b)) part ≡ true
+    → list_all (λ b. not (is_control b)) part ≡ true → is_utf8 part ≡ true → is_name part ≡ true
+is_name_where_fine place part below e plain clear utf8 =
     let some = passes (eqb (length part) 0) _ _ e in
     let later = subst (λ (t : Bool). cond t (cond (is_fs_name part) None (Some BadFsName)) (cond (is_dots part) (Some (DotName place)) (cond (ltb 255 (length part)) (Some (NameTooLong place)) None)) ≡ None) (above_zero place below) some.1 in
     let dots = passes (is_dots part) _ _ later in
     let long = passes (ltb 255 (length part)) _ _ dots.1 in
-    rw (not_empty (length part) some.0, not_long (length part) 255 long.0, dots.0, plain) refl
+    name_from part (record { some = not_empty (length part) some.0; short = not_long (length part) 255 long.0; no_dots = dots.0; no_slash = plain; no_control = clear; utf8 = utf8 })
 
-names_where_fine : (place : ℕ) (parts : List (List ℕ)) → 0 < place → parts_fault place parts ≡ None → list_all (list_all (λ b. not (is_slash b))) parts ≡ true → list_all is_name parts ≡ true
-names_where_fine place [] below e plain = refl
-names_where_fine place (part ∷ parts) below e plain =
+names_where_fine : (place : ℕ) (parts : List (List ℕ)) → 0 < place → parts_fault place parts ≡ None → AreTexts parts → list_all is_name parts ≡ true
+names_where_fine place [] below e are = refl
+names_where_fine place (part ∷ parts) below e are =
     let here = no_fault (part_fault place part) (parts_fault (place + 1) parts) e in
-    let pieces = both_parts (list_all (λ b. not (is_slash b)) part) (list_all (list_all (λ b. not (is_slash b))) parts) plain in
-    rw (is_name_where_fine place part below here.0 pieces.0) (names_where_fine (place + 1) parts (omega arith) here.1 pieces.1)
+    let plain = both_parts (list_all (λ b. not (is_slash b)) part) (list_all (list_all (λ b. not (is_slash b))) parts) are.no_slash in
+    let clear = both_parts (list_all (λ b. not (is_control b)) part) (list_all (list_all (λ b. not (is_control b))) parts) are.no_control in
+    let utf8 = both_parts (is_utf8 part) (list_all is_utf8 parts) are.utf8 in
+    rw (is_name_where_fine place part below here.0 plain.0 clear.0 utf8.0)
+    (names_where_fine (place + 1) parts (omega arith) here.1 (record { no_slash = plain.1; no_control = clear.1; utf8 = utf8.1 }))
 
-pub parts_where_fine : (parts : List (List ℕ)) → parts_fault 0 parts ≡ None → list_all (list_all (λ b. not (is_slash b))) parts ≡ true → are_parts parts ≡ true
-parts_where_fine [] e plain = refl
-parts_where_fine (fs ∷ names) e plain =
+pub parts_where_fine : (parts : List (List ℕ)) → parts_fault 0 parts ≡ None → AreTexts parts → are_parts parts ≡ true
+parts_where_fine [] e are = refl
+parts_where_fine (fs ∷ names) e are =
     let here = no_fault (part_fault 0 fs) (parts_fault 1 names) e in
     let some = passes (eqb (length fs) 0) (EmptyName 0) (cond (is_fs_name fs) None (Some BadFsName)) here.0 in
     let named = holds (is_fs_name fs) BadFsName None some.1 in
-    let pieces = both_parts (list_all (λ b. not (is_slash b)) fs) (list_all (list_all (λ b. not (is_slash b))) names) plain in
-    rw named.0 (names_where_fine 1 names (omega arith) here.1 pieces.1)
+    let plain = both_parts (list_all (λ b. not (is_slash b)) fs) (list_all (list_all (λ b. not (is_slash b))) names) are.no_slash in
+    let clear = both_parts (list_all (λ b. not (is_control b)) fs) (list_all (list_all (λ b. not (is_control b))) names) are.no_control in
+    let utf8 = both_parts (is_utf8 fs) (list_all is_utf8 names) are.utf8 in
+    rw named.0 (names_where_fine 1 names (omega arith) here.1 (record { no_slash = plain.1; no_control = clear.1; utf8 = utf8.1 }))
+
+pub split_there : (rest : List ℕ) → eqb (length rest) 0 ≡ false → split_parts rest ≡ slice_split is_slash rest
+unfolding split_parts
+split_there rest some = ap (λ t. cond t [] (slice_split is_slash rest)) some
 
 split_parts_have_no_slash : (rest : List ℕ) → list_all (list_all (λ b. not (is_slash b))) (split_parts rest) ≡ true
 unfolding split_parts
@@ -158,10 +162,6 @@ of_front p text front is all =
     (λ e. (both_parts (list_all p front) (list_all p (47 ∷ [])) (sym (list_all-append p front (47 ∷ [])) ∙ ap (list_all p) (sym e) ∙ all)).0)
     is
 
-utf8_front : (text front : List ℕ) → (text ≡ front) ⊎ (text ≡ front ++ 47 ∷ []) → IsUtf8 text → IsUtf8 front
-utf8_front text front is u =
-    ⊎_elim (λ e. subst (λ (t : List ℕ). IsUtf8 t) e u) (λ e. utf8_before_slash front (subst (λ (t : List ℕ). IsUtf8 t) e u)) is
-
 tail_of : (p : ℕ → Bool) (b : ℕ) (rest : List ℕ) → list_all p (b ∷ rest) ≡ true → list_all p rest ≡ true
 tail_of p b rest all = (both_parts (p b) (list_all p rest) all).1
 
@@ -183,32 +183,40 @@ sizes_where_fine rest e =
     let shallow = passes (ltb 60 (length (split_parts rest))) TooDeep _ short.1 in
     (within _ _ short.0, within _ _ shallow.0, shallow.1)
 
-pub text_of_path : (text : List ℕ) → list_all is_byte text ≡ true → text_fault text ≡ None → KeepsLimits (split_parts (inner text)) × ((text ≡ path_text (split_parts (inner text))) ⊎ (text ≡ path_text (split_parts (inner text)) ++ 47 ∷ []))
-text_of_path text bytes e =
+utf8_inner : (text : List ℕ) → is_slash (get_or text 0 0) ≡ true → IsUtf8 text → IsUtf8 (inner text)
+utf8_inner text slash u =
+    behind_slash [] (inner text)
+    (⊎_elim (λ e. subst (λ (t : List ℕ). IsUtf8 t) e u) (λ e. before_slash (47 ∷ inner text) [] (subst (λ (t : List ℕ). IsUtf8 t) e u)) (text_is text slash))
+
+-- the parts of a text that is UTF-8 without control bytes
+pub parts_are_texts : (text : List ℕ) → is_slash (get_or text 0 0) ≡ true → IsUtf8 text → list_all (λ b. not (is_control b)) text ≡ true → AreTexts (split_parts (inner text))
+parts_are_texts text slash utf8 clear =
+    let joined = join_split_parts (inner text) in
+    joined_texts (split_parts (inner text)) (split_parts_have_no_slash (inner text))
+    (subst (λ (t : List ℕ). IsUtf8 t) (sym joined) (utf8_inner text slash utf8))
+    (ap (list_all (λ b. not (is_control b))) joined ∙ tail_of (λ b. not (is_control b)) 47 (inner text) (of_front (λ b. not (is_control b)) text (47 ∷ inner text) (text_is text slash) clear))
+
+pub text_of_path : (text : List ℕ) → text_fault text ≡ None → KeepsLimits (split_parts (inner text)) × ((text ≡ path_text (split_parts (inner text))) ⊎ (text ≡ path_text (split_parts (inner text)) ++ 47 ∷ []))
+text_of_path text e =
     let facts = no_text_fault text e in
     let sizes = sizes_where_fine (inner text) facts.3 in
     let joined = join_split_parts (inner text) in
-    let is = text_is text facts.0 in
-    let shape : (text ≡ path_text (split_parts (inner text))) ⊎ (text ≡ path_text (split_parts (inner text)) ++ 47 ∷ []) = subst (λ (r : List ℕ). (text ≡ 47 ∷ r) ⊎ (text ≡ (47 ∷ r) ++ 47 ∷ [])) (sym joined) is in
     let valid = holds (eqb (utf8_valid_len text) (length text)) _ _ facts.1 in
     let utf8 = utf8_where_valid text (eqb-true _ _ valid.0) in (
       record {
-        parts = parts_where_fine (split_parts (inner text)) sizes.2 (split_parts_have_no_slash (inner text));
-        bytes = tail_of is_byte 47 (join_with_byte 47 (split_parts (inner text))) (of_front is_byte text (path_text (split_parts (inner text))) shape bytes);
-        utf8 = utf8_front text (path_text (split_parts (inner text))) shape utf8;
-        no_control = of_front (λ b. not (is_control b)) text (path_text (split_parts (inner text))) shape (found_nowhere is_control text facts.2);
+        parts = parts_where_fine (split_parts (inner text)) sizes.2 (parts_are_texts text facts.0 utf8 (found_nowhere is_control text facts.2));
         length_within = subst (λ (r : List ℕ). length r ≤ 1024) (sym joined) sizes.0;
         depth_within = sizes.1;
       },
-      shape,
+      subst (λ (r : List ℕ). (text ≡ 47 ∷ r) ⊎ (text ≡ (47 ∷ r) ++ 47 ∷ [])) (sym joined) (text_is text facts.0),
     )
 
 read_parts : (fault : Option PathFault) (path read : List (List ℕ)) → path_or_fault fault path ≡ Ok read → (fault ≡ None) × (path ≡ read)
 read_parts None path read e = (refl, cc)
 read_parts (Some fault) path read e = cc
 
-pub path_is_spelled : (text : List ℕ) (path : List (List ℕ)) → list_all is_byte text ≡ true → plain_path text ≡ Ok path → KeepsLimits path × Spells text path
+pub path_is_spelled : (text : List ℕ) (path : List (List ℕ)) → plain_path text ≡ Ok path → KeepsLimits path × Spells text path
 unfolding plain_path
-path_is_spelled text path bytes e =
+path_is_spelled text path e =
     let read = read_parts (text_fault text) (split_parts (inner text)) path e in
-    subst (λ (p : List (List ℕ)). KeepsLimits p × ((text ≡ path_text p) ⊎ (text ≡ path_text p ++ 47 ∷ []))) read.1 (text_of_path text bytes read.0)
+    subst (λ (p : List (List ℕ)). KeepsLimits p × ((text ≡ path_text p) ⊎ (text ≡ path_text p ++ 47 ∷ []))) read.1 (text_of_path text read.0)

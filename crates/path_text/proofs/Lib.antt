@@ -1,5 +1,8 @@
 pub mod TextLemmas
 pub mod PlaceLemmas
+pub mod NameLemmas
+pub mod HyphenLemmas
+pub mod PathLemmas
 pub mod EscapeLemmas
 pub mod WrittenLemmas
 pub mod ReadLemmas

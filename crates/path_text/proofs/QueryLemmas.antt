@@ -11,7 +11,7 @@ use Rattle.percent_encoding.specs.Percent.{percent_decode}
 use Rattle.percent_encoding.proofs.PercentLemmas.{percent_decode-nil}
 use Rattle.path_text.specs.Queries.{SpellsPair, SpellsQuery, is_ampersand, is_equals}
 use Rattle.path_text.specs.Targets.{HasNoBadEscape, SpellsQueryPart, bad_escape, has_bad_query, pair_of, query_pairs}
-use Rattle.path_text.proofs.WrittenLemmas.{both_parts}
+use Rattle.path_text.proofs.PlaceLemmas.{both_parts}
 use Rattle.path_text.proofs.SplitLemmas.{pieces_have_none, split_join}
 use Rattle.path_text.proofs.LawLemmas.{first_bad_escape}
 

@@ -10,9 +10,10 @@ use Rattle.std.proofs.lemmas.List.Splits.{slice_split_none, slice_split_at}
 use Rattle.std.proofs.lemmas.Str.{utf8_valid_len-IsUtf8, IsUtf8-append, IsUtf8-encode, encode_ascii}
 use Rattle.std.proofs.lemmas.List.Folds.{list_all-append}
 use Rattle.std.proofs.Math.Seq.{take-append_seam}
-use Rattle.path_text.specs.Names.{is_fs_byte, is_fs_name, has_single_hyphens}
-use Rattle.path_text.specs.Texts.{is_control, is_dots, is_name, is_slash, are_parts, path_text, KeepsLimits, Spells, inner, split_parts, part_fault, parts_fault, size_fault, text_fault, plain_path}
-use Rattle.path_text.proofs.WrittenLemmas.{both_parts}
+use Rattle.path_text.specs.Names.{are_parts, has_single_hyphens, is_control, is_dots, is_fs_byte, is_fs_name, is_name, is_slash}
+use Rattle.path_text.specs.Texts.{path_text, KeepsLimits, Spells, inner, split_parts, part_fault, parts_fault, size_fault, text_fault, plain_path}
+use Rattle.path_text.proofs.PlaceLemmas.{both_parts}
+use Rattle.path_text.proofs.NameLemmas.{fs_is_named, named, path_control, path_utf8}
 
 pub not_true : (b : Bool) → not b ≡ true → b ≡ false
 not_true true e = absurd (false≢true e)
@@ -30,26 +31,15 @@ data Pieces : List (List ℕ) → Type 0 where
   no_pieces : Pieces []
   a_piece : (part : List ℕ) (parts : List (List ℕ)) → IsPiece part → Pieces parts → Pieces (part ∷ parts)
 
-no_fs_slash : (text : List ℕ) → list_all is_fs_byte text ≡ true → list_all (λ b. not (is_slash b)) text ≡ true
-no_fs_slash [] all = refl
-no_fs_slash (b ∷ text) all =
-    let parts = both_parts (is_fs_byte b) (list_all is_fs_byte text) all in
-    let here : not (is_slash b) ≡ true = grind (arith, nat_tests) in
-    rw here (no_fs_slash text parts.1)
-
 fs_is_piece : (fs : List ℕ) → is_fs_name fs ≡ true → IsPiece fs
 fs_is_piece fs e =
-    let front = both_parts (nat_le 3 (length fs) && nat_le (length fs) 63 && list_all is_fs_byte fs) (has_single_hyphens fs) e in
-    let bytes = both_parts (nat_le 3 (length fs) && nat_le (length fs) 63) (list_all is_fs_byte fs) front.0 in
-    let long = both_parts (nat_le 3 (length fs)) (nat_le (length fs) 63) bytes.0 in
-    record { nonempty = at_least 3 (length fs) (omega arith) long.0; no_slash = no_fs_slash fs bytes.1 }
+    let is = fs_is_named fs e in
+    record { nonempty = at_least 1 (length fs) (omega arith) is.some; no_slash = is.no_slash }
 
 name_is_piece : (name : List ℕ) → is_name name ≡ true → IsPiece name
 name_is_piece name e =
-    let front = both_parts (nat_le 1 (length name) && nat_le (length name) 255 && not (is_dots name)) (list_all (λ b. not (is_slash b)) name) e in
-    let sizes = both_parts (nat_le 1 (length name) && nat_le (length name) 255) (not (is_dots name)) front.0 in
-    let long = both_parts (nat_le 1 (length name)) (nat_le (length name) 255) sizes.0 in
-    record { nonempty = at_least 1 (length name) (omega arith) long.0; no_slash = front.1 }
+    let is = named name e in
+    record { nonempty = at_least 1 (length name) (omega arith) is.some; no_slash = is.no_slash }
 
 names_are_pieces : (names : List (List ℕ)) → list_all is_name names ≡ true → Pieces names
 names_are_pieces [] e = no_pieces
@@ -144,11 +134,9 @@ split_parts_of_path (fs ∷ names) e =
 -- no part of a path has a fault
 name_is_fine : (place : ℕ) (name : List ℕ) → 0 < place → is_name name ≡ true → part_fault place name ≡ None
 name_is_fine place name below e =
-    let front = both_parts (nat_le 1 (length name) && nat_le (length name) 255 && not (is_dots name)) (list_all (λ b. not (is_slash b)) name) e in
-    let sizes = both_parts (nat_le 1 (length name) && nat_le (length name) 255) (not (is_dots name)) front.0 in
-    let long = both_parts (nat_le 1 (length name)) (nat_le (length name) 255) sizes.0 in
-    let some : eqb (length name) 0 ≡ false = not_zero _ (at_least 1 (length name) (omega arith) long.0) in
-    rw (some, not_zero place below, not_true (is_dots name) sizes.1, not_above (length name) 255 long.1) refl
+    let is = named name e in
+    let some : eqb (length name) 0 ≡ false = not_zero _ (at_least 1 (length name) (omega arith) is.some) in
+    rw (some, not_zero place below, is.no_dots, not_above (length name) 255 is.short) refl
 
 names_are_fine : (place : ℕ) (names : List (List ℕ)) → 0 < place → list_all is_name names ≡ true → parts_fault place names ≡ None
 names_are_fine place [] below e = refl
@@ -182,7 +170,7 @@ read_where text path limits slash utf8 clean between =
 
 pub path_is_read : (path : List (List ℕ)) → KeepsLimits path → plain_path (path_text path) ≡ Ok path
 path_is_read path limits =
-    read_where (path_text path) path limits refl limits.utf8 limits.no_control (inner_of_path path limits.parts)
+    read_where (path_text path) path limits refl (path_utf8 path limits.parts) (path_control path limits.parts) (inner_of_path path limits.parts)
 
 pub inner_of_ended : (rest : List ℕ) → inner ((47 ∷ rest) ++ 47 ∷ []) ≡ rest
 unfolding inner
@@ -198,8 +186,8 @@ inner_of_ended rest =
 pub ended_path_is_read : (path : List (List ℕ)) → KeepsLimits path → plain_path (path_text path ++ 47 ∷ []) ≡ Ok path
 ended_path_is_read path limits =
     read_where (path_text path ++ 47 ∷ []) path limits refl
-    (IsUtf8-append (path_text path) (47 ∷ []) limits.utf8 (subst (λ (t : List ℕ). IsUtf8 t) (encode_ascii 47 (lit< tt)) (IsUtf8-encode 47 refl)))
-    (list_all-append (λ b. not (is_control b)) (path_text path) (47 ∷ []) ∙ ap (λ t. t && true) limits.no_control)
+    (IsUtf8-append (path_text path) (47 ∷ []) (path_utf8 path limits.parts) (subst (λ (t : List ℕ). IsUtf8 t) (encode_ascii 47 (lit< tt)) (IsUtf8-encode 47 refl)))
+    (list_all-append (λ b. not (is_control b)) (path_text path) (47 ∷ []) ∙ ap (λ t. t && true) (path_control path limits.parts))
     (inner_of_ended (join_with_byte 47 path))
 
 pub spelled_is_read : (text : List ℕ) (path : List (List ℕ)) → KeepsLimits path → Spells text path → plain_path text ≡ Ok path

@@ -7,7 +7,8 @@ use Rattle.path_text.specs.declared.fault.PathFault.{PathFault}
 use Rattle.path_text.specs.declared.fault.PathFault.TheVariants.{BadEscape, NotUtf8, EmptyName, DotName, NameTooLong, PathTooLong, TooDeep, ControlByte, BadFsName}
 use Rattle.path_text.specs.declared.fault.TargetStop.{TargetStop}
 use Rattle.path_text.specs.declared.fault.TargetStop.TheVariants.{Fault, BadQuery, NoMemory}
-use Rattle.path_text.specs.Texts.{BeginsWithSlash, inner, is_byte, is_slash, path_or_fault, plain_path, split_parts, text_fault}
+use Rattle.path_text.specs.Names.{is_slash}
+use Rattle.path_text.specs.Texts.{BeginsWithSlash, inner, is_byte, path_or_fault, plain_path, split_parts, text_fault}
 use Rattle.path_text.specs.Targets.{HasNoBadEscape, bad_escape, has_bad_query, path_piece, query_pairs, query_piece, target_parts, target_path, unless_escape_is_bad, with_query}
 use Rattle.path_text.specs.Faults.{Answers, IsFaultOfDecoded, IsPathFault, IsTargetFault, IsTargetRefused}
 use Rattle.path_text.proofs.LawLemmas.{first_bad_escape}
@@ -83,9 +84,9 @@ path_refused target stop e = at_slash (is_slash (get_or target 0 0)) refl e
     at_slash true is e = at_escape (bad_escape (path_piece target)) (begins target is) refl e
     at_slash false is e = subst (IsTargetRefused target) (stop_is _ stop e) (inl (refl, λ h. false≢true (sym is ∙ slash_of target h)))
 
-pub refused_where : (target : List ℕ) (stop : TargetStop) → list_all is_byte target ≡ true → target_parts target ≡ Err stop → IsTargetRefused target stop
+pub refused_where : (target : List ℕ) (stop : TargetStop) → target_parts target ≡ Err stop → IsTargetRefused target stop
 unfolding target_parts
-refused_where target stop bytes e = at_path (target_path target) refl e
+refused_where target stop e = at_path (target_path target) refl e
   where
     at_query : (path : List (List ℕ)) (o : Option (List ℕ)) → target_path target ≡ Ok path → query_piece target ≡ o → with_query (Ok path) o ≡ Err stop → IsTargetRefused target stop
     at_query path None read is e = cc
@@ -94,7 +95,7 @@ refused_where target stop bytes e = at_path (target_path target) refl e
         at_bad : (b : Option ℕ) → bad_escape query ≡ b → cond {A = Result (List (List ℕ) × List (List ℕ × List ℕ)) TargetStop} (is_some b) (Err BadQuery) (Ok (path, query_pairs (Some query))) ≡ Err stop → IsTargetRefused target stop
         at_bad None bad e = cc
         at_bad (Some at) bad e =
-            subst (IsTargetRefused target) (stop_is BadQuery stop e) ((path, path_there target path bytes read), (query, is, (at, (first_bad_escape query at).0 bad)))
+            subst (IsTargetRefused target) (stop_is BadQuery stop e) ((path, path_there target path read), (query, is, (at, (first_bad_escape query at).0 bad)))
 
     at_path : (r : Result (List (List ℕ)) TargetStop) → target_path target ≡ r → with_query r (query_piece target) ≡ Err stop → IsTargetRefused target stop
     at_path (Err s) is e = subst (IsTargetRefused target) (stop_is s stop e) (path_refused target s is)

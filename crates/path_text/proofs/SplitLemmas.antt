@@ -4,7 +4,7 @@ use Rattle.std.specs.List.{list_all, join_with_byte, slice_split, onto_first}
 use Rattle.std.proofs.lemmas.Bool.{cases_Bool}
 use Rattle.std.proofs.lemmas.List.Elements.{All-nil, All-cons}
 use Rattle.std.proofs.lemmas.List.Splits.{slice_split_at, slice_split_none, slice_split-cons_yes, slice_split-cons_no}
-use Rattle.path_text.proofs.WrittenLemmas.{both_parts}
+use Rattle.path_text.proofs.PlaceLemmas.{both_parts}
 
 not_true : (b : Bool) → not b ≡ true → b ≡ false
 not_true true e = cc

@@ -10,35 +10,15 @@ use Rattle.percent_encoding.proofs.PercentLemmas.{IsByte, All-percent_decode}
 use Rattle.path_text.specs.declared.fault.TargetStop.{TargetStop}
 use Rattle.path_text.specs.declared.fault.TargetStop.TheVariants.{Fault, BadQuery}
 use Rattle.path_text.specs.declared.fault.PathFault.TheVariants.{EmptyName}
-use Rattle.path_text.specs.Texts.{is_byte, is_slash, plain_path}
+use Rattle.path_text.specs.Names.{is_slash}
+use Rattle.path_text.specs.Texts.{is_byte, plain_path}
 use Rattle.path_text.specs.Targets.{SpellsQueryPart, SpellsTarget, SpellsTargetPath, bad_escape, has_bad_query, is_question_mark, path_piece, query_piece, query_pairs, target_parts, target_path, unless_escape_is_bad, with_query}
-use Rattle.path_text.proofs.WrittenLemmas.{both_parts}
+use Rattle.path_text.proofs.PlaceLemmas.{both_parts}
 use Rattle.path_text.proofs.GrammarLemmas.{path_is_spelled}
 use Rattle.path_text.proofs.ReadLemmas.{spelled_is_read}
 use Rattle.path_text.proofs.TokenLemmas.{all_bytes}
 use Rattle.path_text.proofs.FaultLemmas.{begins, slash_of}
 use Rattle.path_text.proofs.QueryLemmas.{no_bad, none_bad, query_part_is, query_part_spelled}
-
--- ---- bytes decode to bytes
-
-byte_below : (b : ℕ) → is_byte b ≡ true → IsByte b
-byte_below b e = grind (arith, nat_tests)
-
-each_byte : (text : List ℕ) → list_all is_byte text ≡ true → All IsByte text
-each_byte [] e = λ i d within. absurd (omega arith)
-each_byte (b ∷ text) e =
-    let parts = both_parts (is_byte b) (list_all is_byte text) e in
-    All-cons IsByte b text (byte_below b parts.0) (each_byte text parts.1)
-
-front_bytes : (text : List ℕ) (n : ℕ) → list_all is_byte text ≡ true → list_all is_byte (take n text) ≡ true
-front_bytes text n e =
-    (both_parts (list_all is_byte (take n text)) (list_all is_byte (drop n text))
-    (sym (list_all-append is_byte (take n text) (drop n text)) ∙ ap (list_all is_byte) (take-append-drop n text) ∙ e)).0
-
-piece_bytes : (target : List ℕ) → list_all is_byte target ≡ true → list_all is_byte (percent_decode (path_piece target)) ≡ true
-piece_bytes target e =
-    let decoded = All-percent_decode (path_piece target) (each_byte (path_piece target) (front_bytes target (position_or_len is_question_mark target) e)) in
-    all_bytes (percent_decode (path_piece target)) (λ i within. decoded i 0 within)
 
 -- ---- what is spelled is read
 
@@ -91,20 +71,20 @@ read_slash : (b : Bool) (r : Result (List (List ℕ)) TargetStop) (path : List (
 read_slash true r path e = (refl, e)
 read_slash false r path e = cc
 
-pub path_there : (target : List ℕ) (path : List (List ℕ)) → list_all is_byte target ≡ true → target_path target ≡ Ok path → SpellsTargetPath target path
+pub path_there : (target : List ℕ) (path : List (List ℕ)) → target_path target ≡ Ok path → SpellsTargetPath target path
 unfolding target_path
-path_there target path bytes e =
+path_there target path e =
     let piece = path_piece target in
     let slash = read_slash (is_slash (get_or target 0 0)) (unless_escape_is_bad (bad_escape piece) (plain_path (percent_decode piece))) path e in
     let escapes = read_escape (bad_escape piece) (plain_path (percent_decode piece)) path slash.1 in
-    let spelled = path_is_spelled (percent_decode piece) path (piece_bytes target bytes) escapes.1 in
+    let spelled = path_is_spelled (percent_decode piece) path escapes.1 in
     record { slash = begins target slash.0; escapes = no_bad piece escapes.0; limits = spelled.0; spelled = spelled.1 }
 
-pub target_is_spelled : (target : List ℕ) (path : List (List ℕ)) (query : List (List ℕ × List ℕ)) → list_all is_byte target ≡ true → target_parts target ≡ Ok (path, query) → SpellsTarget target path query
+pub target_is_spelled : (target : List ℕ) (path : List (List ℕ)) (query : List (List ℕ × List ℕ)) → target_parts target ≡ Ok (path, query) → SpellsTarget target path query
 unfolding target_parts
-target_is_spelled target path query bytes e =
+target_is_spelled target path query e =
     let parts = read_query (target_path target) (query_piece target) path query e in
     record {
-      path_part = path_there target path bytes parts.0;
+      path_part = path_there target path parts.0;
       query_part = subst (SpellsQueryPart (query_piece target)) (sym parts.2) (query_part_spelled (query_piece target) parts.1);
     }

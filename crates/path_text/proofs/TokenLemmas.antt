@@ -12,8 +12,9 @@ use Rattle.base64.specs.Engines.{standard}
 use Rattle.base64.specs.GeneralPurpose.{IsBytes, decode_of, decoded_of, encode_of}
 use Rattle.base64.proofs.EngineFacts.{decode_of-encode_of, decode_of_strict}
 use Rattle.path_text.specs.Texts.{KeepsLimits, Spells, is_byte, path_text, plain_path}
-use Rattle.path_text.specs.Tokens.{IsToken, full_text, if_said, is_on_page, path_said, token_bytes, token_path, token_text}
-use Rattle.path_text.proofs.WrittenLemmas.{both_parts}
+use Rattle.path_text.specs.Tokens.{IsToken, full_text, path_if_said, is_on_page, path_said, token_bytes, token_path, token_text}
+use Rattle.path_text.proofs.PlaceLemmas.{both_parts}
+use Rattle.path_text.proofs.NameLemmas.{path_bytes}
 use Rattle.path_text.proofs.ReadLemmas.{spelled_is_read}
 
 -- ---- bytes
@@ -77,9 +78,9 @@ said_bytes (Some fs) (part ∷ name ∷ names) all =
     (both_parts (list_all is_byte part) (list_all is_byte (47 ∷ join_with_byte 47 (name ∷ names))) (sym (list_all-append is_byte part (47 ∷ join_with_byte 47 (name ∷ names))) ∙ all)).1
 
 pub token_is_read : (fs : Option (List ℕ)) (text : List ℕ) (path : List (List ℕ)) → IsToken fs text path → token_path fs text ≡ Some path
-unfolding token_path token_text path_said if_said decoded_of
+unfolding token_path token_text path_said path_if_said decoded_of
 token_is_read fs text path is =
-    let decoded : decode_of standard text ≡ Ok (token_bytes fs path) = ap (decode_of standard) is.spelled ∙ decode_of-encode_of standard (token_bytes fs path) refl (are_bytes (token_bytes fs path) (said_bytes fs path is.limits.bytes)) in
+    let decoded : decode_of standard text ≡ Ok (token_bytes fs path) = ap (decode_of standard) is.spelled ∙ decode_of-encode_of standard (token_bytes fs path) refl (are_bytes (token_bytes fs path) (said_bytes fs path (path_bytes path is.limits.parts))) in
     let read = spelled_is_read (full_text fs (token_bytes fs path)) path is.limits (full_is_spelled fs path is.page) in
     let same = (bytes_eq-Decides (token_bytes fs path) (token_bytes fs path)).1 refl in
     rw (decoded, read, is.page, same) refl
@@ -97,10 +98,10 @@ kept true q p e = (refl, cc)
 kept false q p e = cc
 
 pub read_is_token : (fs : Option (List ℕ)) (text : List ℕ) (path : List (List ℕ)) → list_all is_byte text ≡ true → KeepsLimits path → token_path fs text ≡ Some path → IsToken fs text path
-unfolding token_path token_text path_said if_said decoded_of
+unfolding token_path token_text path_said path_if_said decoded_of
 read_is_token fs text path bytes limits e =
     let decoded = then_some (path_said fs) (decoded_of standard text) path e in
-    let read = then_some (if_said fs decoded.0) (result_ok (plain_path (full_text fs decoded.0))) path decoded.2 in
+    let read = then_some (path_if_said fs decoded.0) (result_ok (plain_path (full_text fs decoded.0))) path decoded.2 in
     let same = kept (is_on_page fs read.0 && bytes_eq (token_bytes fs read.0) decoded.0) read.0 path read.2 in
     let tests = both_parts (is_on_page fs read.0) (bytes_eq (token_bytes fs read.0) decoded.0) same.0 in
     let said : token_bytes fs read.0 ≡ decoded.0 = (bytes_eq-Decides (token_bytes fs read.0) decoded.0).0 tests.1 in

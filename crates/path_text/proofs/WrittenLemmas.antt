@@ -10,6 +10,8 @@ use Rattle.percent_encoding.specs.Percent.{percent_decode, percent_encode_byte}
 use Rattle.percent_encoding.proofs.PercentLemmas.{percent_decode-nil, percent_decode_not_percent, percent_decode-percent_encode_byte}
 use Rattle.path_text.specs.Texts.{is_byte, path_text, KeepsLimits}
 use Rattle.path_text.specs.Targets.{bad_escape, begins_badly, is_question_mark, is_unreserved, escaped, escaped_byte, written_path}
+use Rattle.path_text.proofs.PlaceLemmas.{both_parts}
+use Rattle.path_text.proofs.NameLemmas.{path_bytes}
 
 -- a text without a bad escape and without `?`, and what it is decoded to
 pub record Clean (text bytes : List ℕ) : Type 0 where
@@ -19,10 +21,6 @@ pub record Clean (text bytes : List ℕ) : Type 0 where
 
 differ : (a b : ℕ) → a ≢ b → eqb a b ≡ false
 differ a b apart = ⊎_elim (λ e. absurd (apart e.1)) (λ e. e.0) (eqb_tells a b)
-
-pub both_parts : (a b : Bool) → (a && b) ≡ true → (a ≡ true) × (b ≡ true)
-both_parts true b e = (refl, e)
-both_parts false b e = absurd (false≢true e)
 
 goes_on : (b : ℕ) (rest : List ℕ) → begins_badly (b ∷ rest) ≡ false → bad_escape rest ≡ None → bad_escape (b ∷ rest) ≡ None
 unfolding bad_escape
@@ -99,4 +97,4 @@ clean_join (x ∷ y ∷ parts) small =
 pub written_clean : (path : List (List ℕ)) → KeepsLimits path → Clean (written_path path) (path_text path)
 unfolding written_path
 written_clean path limits =
-    clean_kept 47 _ _ (λ e. omega arith) (λ e. omega arith) (clean_join path limits.bytes)
+    clean_kept 47 _ _ (λ e. omega arith) (λ e. omega arith) (clean_join path (path_bytes path limits.parts))

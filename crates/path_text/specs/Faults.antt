@@ -3,8 +3,8 @@ use Rattle.std.specs.Prelude.{ℕ, ◌+◌, ◌<◌, ◌≤◌, ◌≡◌, ◌�
 use Rattle.std.specs.List.{list_all, join_with_byte}
 use Rattle.std.specs.Str.{IsUtf8, IsValidUpTo}
 use Rattle.percent_encoding.specs.Percent.{percent_decode}
-use Rattle.path_text.specs.Names.{is_fs_name}
-use Rattle.path_text.specs.Texts.{BeginsWithSlash, are_parts, is_control, is_dots, is_slash}
+use Rattle.path_text.specs.Names.{are_parts, is_control, is_dots, is_fs_name, is_slash}
+use Rattle.path_text.specs.Texts.{BeginsWithSlash}
 use Rattle.path_text.specs.Targets.{HasNoBadEscape, IsFirstBadEscape, SpellsTargetPath, path_piece, query_piece}
 use Rattle.path_text.specs.declared.fault.PathFault.{PathFault}
 use Rattle.path_text.specs.declared.fault.PathFault.TheVariants.{BadEscape, NotUtf8, EmptyName, DotName, NameTooLong, PathTooLong, TooDeep, ControlByte, BadFsName}

@@ -3,7 +3,8 @@ use Rattle.std.specs.Prelude.{ℕ, ◌+◌, ◌<◌, length, ◌≡◌, Bool, tr
 use Rattle.std.specs.List.{slice_split, before_first, after_first, flat_map, join_with_byte}
 use Rattle.std.specs.Char.{is_ascii_hexdigit, is_ascii_alphabetic, is_ascii_digit}
 use Rattle.percent_encoding.specs.Percent.{percent_encode_byte, percent_decode}
-use Rattle.path_text.specs.Texts.{BeginsWithSlash, is_slash, plain_path, KeepsLimits, Spells}
+use Rattle.path_text.specs.Names.{is_slash}
+use Rattle.path_text.specs.Texts.{BeginsWithSlash, plain_path, KeepsLimits, Spells}
 use Rattle.path_text.specs.Queries.{SpellsQuery, is_ampersand, is_equals}
 use Rattle.path_text.specs.declared.fault.PathFault.TheVariants.{BadEscape, EmptyName}
 use Rattle.path_text.specs.declared.fault.TargetStop.{TargetStop}

@@ -1,37 +1,16 @@
 -- The texts of paths: what a text without escapes stands for, and the first fault of one that stands for none.
-use Rattle.std.specs.Prelude.{ℕ, ◌+◌, ◌-◌, ◌≤◌, ◌≡◌, ◌⊎◌, Bool, true, not, ◌&&◌, ◌||◌, ◌==◌, nat_lt, nat_le, List, [], ◌∷◌, ◌++◌, length, take, drop, slice_index, position, bytes_eq, Option, Some, None, Result, Ok, Err, option_map, if◌then◌else◌}
-use Rattle.std.specs.List.{list_all, slice_split, join_with_byte}
-use Rattle.std.specs.Str.{IsUtf8}
+use Rattle.std.specs.Prelude.{ℕ, ◌+◌, ◌-◌, ◌≤◌, ◌≡◌, ◌⊎◌, Bool, true, ◌==◌, nat_lt, List, [], ◌∷◌, ◌++◌, length, take, drop, slice_index, position, Option, Some, None, Result, Ok, Err, option_map, if◌then◌else◌}
+use Rattle.std.specs.List.{slice_split, join_with_byte}
 use Rattle.std.specs.Str.Lossy.{utf8_valid_len}
-use Rattle.path_text.specs.Names.{is_fs_name}
+use Rattle.path_text.specs.Names.{are_parts, is_control, is_dots, is_fs_name, is_slash}
 use Rattle.path_text.specs.declared.fault.PathFault.{PathFault}
 use Rattle.path_text.specs.declared.fault.PathFault.TheVariants.{NotUtf8, EmptyName, DotName, NameTooLong, PathTooLong, TooDeep, ControlByte, BadFsName}
 use Rattle.path_text.specs.declared.fault.TargetStop.{TargetStop}
 use Rattle.path_text.specs.declared.fault.TargetStop.TheVariants.{Fault}
 
-abbrev pub is_slash : ℕ → Bool
-is_slash b = b == 47
-
 -- the text begins with `/`
 abbrev pub BeginsWithSlash : List ℕ → Type 0
 BeginsWithSlash text = (rest : List ℕ) × (text ≡ 47 ∷ rest)
-
--- a byte that no path has: below 32, and 127
-abbrev pub is_control : ℕ → Bool
-is_control b = nat_lt b 32 || b == 127
-
--- `.` and `..`
-abbrev pub is_dots : List ℕ → Bool
-is_dots name = bytes_eq name (46 ∷ []) || bytes_eq name (46 ∷ 46 ∷ [])
-
--- the name of a directory or a file: 1 to 255 bytes, not `.` or `..`, without `/`
-abbrev pub is_name : List ℕ → Bool
-is_name name = nat_le 1 (length name) && nat_le (length name) 255 && not (is_dots name) && list_all (λ b. not (is_slash b)) name
-
--- the first part names a filesystem, and the others are names
-abbrev pub are_parts : List (List ℕ) → Bool
-are_parts [] = true
-are_parts (fs ∷ names) = is_fs_name fs && list_all is_name names
 
 -- `/`, then the parts with `/` between them; the account is `/`
 abbrev pub path_text : List (List ℕ) → List ℕ
@@ -44,12 +23,9 @@ Spells text path = (text ≡ path_text path) ⊎ (text ≡ path_text path ++ 47 
 abbrev pub is_byte : ℕ → Bool
 is_byte b = nat_lt b 256
 
--- the path keeps the limits: its names, its text without the `/` at the front, and how many parts it has
+-- the path keeps the limits: its names, how many bytes its text has without the `/` at the front, and how many parts it has
 pub record KeepsLimits (path : List (List ℕ)) : Type 0 where
   pub parts : are_parts path ≡ true
-  pub bytes : list_all is_byte (join_with_byte 47 path) ≡ true
-  pub utf8 : IsUtf8 (path_text path)
-  pub no_control : list_all (λ b. not (is_control b)) (path_text path) ≡ true
   pub length_within : length (join_with_byte 47 path) ≤ 1024
   pub depth_within : length path ≤ 60
 

@@ -36,11 +36,11 @@ full_text None bytes = bytes
 full_text (Some fs) bytes = (47 ∷ fs) ++ bytes
 
 -- the path, if these bytes are what its token says
-unfoldable pub if_said : Option (List ℕ) → List ℕ → List (List ℕ) → Option (List (List ℕ))
-if_said fs bytes path = if is_on_page fs path && bytes_eq (token_bytes fs path) bytes then Some path else None
+unfoldable pub path_if_said : Option (List ℕ) → List ℕ → List (List ℕ) → Option (List (List ℕ))
+path_if_said fs bytes path = if is_on_page fs path && bytes_eq (token_bytes fs path) bytes then Some path else None
 
 unfoldable pub path_said : Option (List ℕ) → List ℕ → Option (List (List ℕ))
-path_said fs bytes = option_and_then (if_said fs bytes) (result_ok (plain_path (full_text fs bytes)))
+path_said fs bytes = option_and_then (path_if_said fs bytes) (result_ok (plain_path (full_text fs bytes)))
 
 -- the path of a token
 unfoldable pub token_path : Option (List ℕ) → List ℕ → Option (List (List ℕ))

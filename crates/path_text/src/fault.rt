@@ -1,3 +1,7 @@
+ghost use Rattle.std.specs.Prelude.{◌≡◌};
+ghost use Rattle.path_text.specs.declared.fault.TargetStop.TheVariants.{NoMemory};
+
+use std::alloc::AllocError;
 use thiserror::Error;
 
 /// Why a text names no path. A place in a text is counted in bytes from its leading `/` at 0, a place of a part from 0 with the
@@ -45,4 +49,12 @@ pub enum TargetStop {
     /// There was no memory.
     #[error("There was no memory.")]
     NoMemory,
+}
+
+impl From<AllocError> for TargetStop {
+    ghost from_gives = { λ _ stop. stop ≡ NoMemory };
+
+    fn from(_error: AllocError) -> TargetStop {
+        TargetStop::NoMemory
+    }
 }

@@ -1,39 +1,59 @@
-ghost use Rattle.std.specs.Prelude.{◌≡◌, true, bytes_eq, IfOk};
+ghost use Rattle.std.specs.Prelude.{◌≡◌, true, IfOk, IsTrue};
 ghost use Rattle.std.specs.List.{list_all};
-ghost use Rattle.path_text.specs.Names.{fs_name_of, has_single_hyphens, is_fs_byte, is_fs_name};
+ghost use Rattle.path_text.specs.Names.{fs_name_of, has_single_hyphens, is_fs_byte, is_fs_name, is_name};
 
+use super::limits::{FS_NAME_LEAST, FS_NAME_MOST};
 use std::alloc::{AllocError, Global};
 use std::cmp::Ordering;
 use std::marker::Model;
+use std::str::from_utf8;
 
-/// The name of a directory or a file below a filesystem. A contract sees the list of its bytes.
+/// The name of a filesystem, a directory or a file: 1 to 255 bytes of UTF-8 without `/` and control bytes, and not `.` or `..`. A
+/// contract sees the list of its bytes.
 #[derive(Debug, Drop)]
 pub struct Name {
-    bytes: Vec<u8>,
+    text: String,
 }
 
 impl Model for Name {
-    ghost use Rattle.std.specs.Prelude.{List, ℕ};
+    ghost use Rattle.std.specs.Prelude.{List, ℕ, IsTrue};
+    ghost use Rattle.std.specs.String.{string_bytes};
+    ghost use Rattle.path_text.specs.Names.{is_name};
 
     ghost Value = { List ℕ };
 
-    ghost view = { λ n. n.bytes.items };
+    ghost view = { λ n. string_bytes n.text };
+
+    ghost invariant = { λ n. IsTrue (is_name (string_bytes n.text)) };
 }
 
 impl Name {
+    // The name of these bytes.
     pub(crate) fn of_bytes(alloc: Global, bytes: &[u8]) -> Result<Name, AllocError>
+        requires { is_name bytes.now ≡ true }
         ensures { IfOk result (λ name. name ≡ bytes.now) }
     {
-        Ok(Name {
-            bytes: bytes.to_vec(alloc)?,
-        })
+        match from_utf8(bytes) {
+            Ok(text) => Ok(Name {
+                text: String::from_str(alloc, text)?,
+            }),
+            Err(_) => unreachable!(),
+        }
     }
 
     /// The bytes.
     pub fn bytes(&self) -> &[u8]
+        ensures value { result.now ≡ self.now }
+        ensures name { IsTrue (is_name self.now) }
+    {
+        self.text.as_bytes()
+    }
+
+    /// The text.
+    pub fn as_str(&self) -> &str
         ensures { result.now ≡ self.now }
     {
-        self.bytes.as_slice()
+        self.text.as_str()
     }
 
     /// Another name with the same bytes. The one error is want of memory.
@@ -41,7 +61,7 @@ impl Name {
         ensures { IfOk result (λ name. name ≡ self.now) }
     {
         Ok(Name {
-            bytes: self.bytes.as_slice().to_vec(alloc)?,
+            text: String::from_str(alloc, self.text.as_str())?,
         })
     }
 }
@@ -56,7 +76,7 @@ impl PartialEq for Name {
     ghost laws = { partial_equiv_from_equiv nat_list_eq_equiv };
 
     fn eq(&self, other: &Name) -> bool {
-        self.bytes.as_slice() == other.bytes.as_slice()
+        self.text.as_bytes() == other.text.as_bytes()
     }
 }
 
@@ -94,54 +114,59 @@ impl Ord for Name {
     ghost matches_eq = { λ x y. sym (is_eq-slice_cmp x y) };
 
     fn cmp(&self, other: &Name) -> Ordering {
-        self.bytes.as_slice().cmp(other.bytes.as_slice())
+        self.text.as_bytes().cmp(other.text.as_bytes())
     }
 }
 
 /// The name of a filesystem. A contract sees the list of its bytes.
-#[derive(Debug, Drop)]
+#[derive(Debug, Drop, PartialEq, Eq, PartialOrd, Ord)]
 pub struct FsName {
-    bytes: Vec<u8>,
+    name: Name,
 }
 
 impl Model for FsName {
-    ghost use Rattle.std.specs.Prelude.{List, ℕ};
+    ghost use Rattle.std.specs.Prelude.{List, ℕ, IsTrue};
+    ghost use Rattle.path_text.specs.Names.{is_fs_name};
 
     ghost Value = { List ℕ };
 
-    ghost view = { λ n. n.bytes.items };
+    ghost view = { λ f. f.name };
+
+    ghost invariant = { λ f. IsTrue (is_fs_name f.name) };
+
+    ghost inverse = { λ name. record { name = name } };
 }
 
 impl FsName {
-    // The same bytes.
-    pub(crate) fn taken(name: Name) -> FsName
+    // A name that names a filesystem.
+    pub(crate) fn of_name(name: Name) -> FsName
+        requires { is_fs_name name ≡ true }
         ensures { result ≡ name }
     {
-        FsName { bytes: name.bytes }
+        FsName { name }
     }
 
-    // The bytes of a name that names a filesystem.
-    pub(crate) fn of_name(alloc: Global, name: &Name) -> Result<FsName, AllocError>
-        requires { is_fs_name name.now ≡ true }
-        ensures { IfOk result (λ fs. fs ≡ name.now) }
+    /// The name, which a child of the account has.
+    pub fn name(&self) -> &Name
+        ensures value { result.now ≡ self.now }
+        ensures filesystem { IsTrue (is_fs_name self.now) }
     {
-        Ok(FsName {
-            bytes: name.bytes().to_vec(alloc)?,
-        })
+        &self.name
     }
 
     /// The bytes.
     pub fn bytes(&self) -> &[u8]
-        ensures { result.now ≡ self.now }
+        ensures value { result.now ≡ self.now }
+        ensures filesystem { IsTrue (is_fs_name self.now) }
     {
-        self.bytes.as_slice()
+        self.name.bytes()
     }
 
-    /// The same bytes as the name of a child of the account. The one error is want of memory.
-    pub fn name(&self, alloc: Global) -> Result<Name, AllocError>
-        ensures { IfOk result (λ name. name ≡ self.now) }
+    /// The text.
+    pub fn as_str(&self) -> &str
+        ensures { result.now ≡ self.now }
     {
-        Name::of_bytes(alloc, self.bytes.as_slice())
+        self.name.as_str()
     }
 
     /// Another name with the same bytes. The one error is want of memory.
@@ -149,60 +174,8 @@ impl FsName {
         ensures { IfOk result (λ name. name ≡ self.now) }
     {
         Ok(FsName {
-            bytes: self.bytes.as_slice().to_vec(alloc)?,
+            name: self.name.copy(alloc)?,
         })
-    }
-}
-
-impl PartialEq for FsName {
-    ghost use Rattle.std.specs.Prelude.{bytes_eq};
-    ghost use Rattle.std.specs.Cmp.{partial_equiv_from_equiv};
-    ghost use Rattle.std.specs.Cmp.Lexicographic.{nat_list_eq_equiv};
-
-    ghost eq = { bytes_eq };
-
-    ghost laws = { partial_equiv_from_equiv nat_list_eq_equiv };
-
-    fn eq(&self, other: &FsName) -> bool {
-        self.bytes.as_slice() == other.bytes.as_slice()
-    }
-}
-
-impl Eq for FsName {
-    ghost use Rattle.std.specs.Cmp.Lexicographic.{nat_list_eq_equiv};
-
-    ghost laws = { nat_list_eq_equiv };
-}
-
-impl PartialOrd for FsName {
-    ghost use Rattle.std.specs.Ordering.{as_partial_cmp, nat_cmp};
-    ghost use Rattle.std.specs.Cmp.Lexicographic.{slice_cmp, texts_po};
-
-    ghost partial_cmp = { as_partial_cmp (slice_cmp nat_cmp) };
-
-    ghost laws = { texts_po };
-
-    fn partial_cmp(&self, other: &FsName) -> Option<Ordering> {
-        Some(self.cmp(other))
-    }
-}
-
-impl Ord for FsName {
-    ghost use Rattle.std.specs.Ordering.{nat_cmp};
-    ghost use Rattle.std.specs.Cmp.Lexicographic.{slice_cmp, nat_list_cmp_total};
-    ghost use Rattle.std.proofs.Common.{sym, refl};
-    ghost use Rattle.std.proofs.lemmas.Map.Text.{is_eq-slice_cmp};
-
-    ghost cmp = { slice_cmp nat_cmp };
-
-    ghost total = { nat_list_cmp_total };
-
-    ghost matches_partial_cmp = { λ x y. refl };
-
-    ghost matches_eq = { λ x y. sym (is_eq-slice_cmp x y) };
-
-    fn cmp(&self, other: &FsName) -> Ordering {
-        self.bytes.as_slice().cmp(other.bytes.as_slice())
     }
 }
 
@@ -215,15 +188,16 @@ pub fn read_fs_name(alloc: Global, text: &[u8]) -> Result<Option<FsName>, AllocE
     if !is_fs_name(text) {
         return Ok(None);
     }
-    Ok(Some(FsName {
-        bytes: text.to_vec(alloc)?,
-    }))
+    Ok(Some(FsName::of_name(Name::of_bytes(alloc, text)?)))
 }
 
 pub(crate) fn is_fs_name(text: &[u8]) -> bool
     ensures { result ≡ is_fs_name text.now }
 {
-    3 <= text.len() && text.len() <= 63 && are_fs_bytes(text) && has_single_hyphens(text)
+    FS_NAME_LEAST <= text.len()
+        && text.len() <= FS_NAME_MOST
+        && are_fs_bytes(text)
+        && has_single_hyphens(text)
 }
 
 fn are_fs_bytes(text: &[u8]) -> bool

@@ -3,7 +3,7 @@ ghost use Rattle.path_text.specs.Parts.{parts_left, with_first};
 
 use super::name::{FsName, Name};
 
-/// The parts of a path that are still to come, from the left.
+/// The parts of a path that are still to come, from the left, as names. It takes no memory.
 #[derive(Drop)]
 pub struct Parts<'a> {
     fs: Option<&'a FsName>,
@@ -19,7 +19,7 @@ impl<'a> Parts<'a> {
 }
 
 impl<'a> Iterator for Parts<'a> {
-    type Item = &'a [u8];
+    type Item = &'a Name;
 
     ghost use Rattle.std.specs.Iterator.{YieldsFirstBy, item_count};
     ghost use Rattle.path_text.specs.Parts.{parts_left};
@@ -28,12 +28,12 @@ impl<'a> Iterator for Parts<'a> {
 
     ghost remaining = { item_count parts_left };
 
-    fn next(&mut self) -> Option<&'a [u8]> {
+    fn next(&mut self) -> Option<&'a Name> {
         if let Some(fs) = self.fs.take() {
-            return Some(fs.bytes());
+            return Some(fs.name());
         }
         let (first, others) = self.names.split_first()?;
         self.names = others;
-        Some(first.bytes())
+        Some(first)
     }
 }

@@ -1,4 +1,5 @@
-ghost use Rattle.std.specs.Prelude.{◌≡◌, IfOk};
+ghost use Rattle.std.specs.Prelude.{◌≡◌, true, IfOk};
+ghost use Rattle.path_text.specs.Names.{are_parts};
 
 use super::name::{FsName, Name};
 use super::parts::Parts;
@@ -7,7 +8,7 @@ use std::cmp::Ordering;
 use std::marker::Model;
 
 // What a path has below the account.
-#[derive(Drop)]
+#[derive(Debug, Drop)]
 struct Place {
     fs: FsName,
     names: Vec<Name>,
@@ -15,32 +16,36 @@ struct Place {
 
 /// A path of the namespace. A contract sees the list of its parts: the filesystem's name, then the names below it. The empty
 /// path is the account.
-#[derive(Drop)]
+#[derive(Debug, Drop)]
 pub struct Path {
     place: Option<Place>,
 }
 
 impl Model for Path {
-    ghost use Rattle.std.specs.Prelude.{List, ℕ};
+    ghost use Rattle.std.specs.Prelude.{List, ℕ, IsTrue};
+    ghost use Rattle.path_text.specs.Names.{are_parts};
 
     ghost Value = { List (List ℕ) };
 
     ghost use Rattle.path_text.specs.Parts.{parts_of};
 
     ghost view = { λ p. parts_of p.place };
+
+    ghost invariant = { λ p. IsTrue (are_parts (parts_of p.place)) };
 }
 
 impl Path {
     ghost use Rattle.std.specs.Option.{option_copied};
-    ghost use Rattle.std.specs.Prelude.{◌≡◌, ◌∷◌, [], ◌++◌, ◌<◌, ◌≤◌, true, length, take, drop, slice_get, vec_len, IfOk};
-    ghost use Rattle.path_text.specs.Names.{is_fs_name};
+    ghost use Rattle.std.specs.Prelude.{◌≡◌, ◌≢◌, ◌↔◌, [], ◌∷◌, ◌++◌, ◌<◌, ◌≤◌, true, length, take, drop, slice_get, vec_len, IfOk, IfSome, IsNone, IsTrue};
+    ghost use Rattle.path_text.specs.Names.{are_parts, is_fs_name};
     ghost use Rattle.path_text.specs.Parts.{parts_left};
-    ghost use Rattle.path_text.specs.Paths.{path_cmp, is_prefix};
+    ghost use Rattle.path_text.specs.Paths.{path_cmp, is_prefix, parent};
 
     /// The root of a filesystem.
     pub fn root(alloc: Global, fs: FsName) -> Path
         ensures { result ≡ fs ∷ [] }
     {
+        let _name = fs.name();
         Path {
             place: Some(Place {
                 fs,
@@ -58,10 +63,11 @@ impl Path {
 
     // The path with these parts.
     pub(crate) fn of_parts(mut names: Vec<Name>) -> Path
-        requires { 0 < vec_len names }
+        requires some { 0 < vec_len names }
+        requires parts { are_parts names.items ≡ true }
         ensures { result ≡ names.items }
     {
-        let fs = FsName::taken(names.remove(0));
+        let fs = FsName::of_name(names.remove(0));
         Path {
             place: Some(Place { fs, names }),
         }
@@ -87,17 +93,73 @@ impl Path {
         }
     }
 
-    /// All parts as names from the left, the filesystem's name first. The one error is want of memory.
-    pub fn part_names(&self, alloc: Global) -> Result<Vec<Name>, AllocError>
-        ensures { IfOk result (λ names. names.items ≡ self.now) }
+    /// The parts from the left, the filesystem's name first. It takes no memory.
+    pub fn parts(&self) -> Parts<'_>
+        ensures value { parts_left result ≡ self.now }
+        ensures parts { IsTrue (are_parts self.now) }
     {
         match &self.place {
-            Some(place) => {
-                let mut names = copy_names(alloc, place.names.as_slice())?;
-                names.insert(0, place.fs.name(alloc)?)?;
-                Ok(names)
+            Some(place) => Parts::new(Some(&place.fs), place.names.as_slice()),
+            None => Parts::new(None, &[]),
+        }
+    }
+
+    /// How many parts there are, the filesystem counted.
+    pub fn depth(&self) -> usize
+        ensures { result ≡ length self.now }
+    {
+        match &self.place {
+            Some(place) => place.names.len() + 1,
+            None => 0,
+        }
+    }
+
+    /// The part at a place, counted from 0 with the filesystem; `None` exactly behind the last one. It takes no memory.
+    pub fn part(&self, place: usize) -> Option<&Name>
+        ensures { option_copied result ≡ slice_get self.now place }
+    {
+        match &self.place {
+            Some(parts) => {
+                if place == 0 {
+                    Some(parts.fs.name())
+                } else {
+                    parts.names.as_slice().get(place - 1)
+                }
             }
-            None => Ok(Vec::new(alloc)),
+            None => None,
+        }
+    }
+
+    /// The last name: `None` exactly for the account. It takes no memory.
+    pub fn last_name(&self) -> Option<&Name>
+        ensures none { IsNone result ↔ (self.now ≡ []) }
+        ensures last { IfSome result (λ name. self.now ≡ parent self.now ++ name.now ∷ []) }
+    {
+        let depth = self.depth();
+        if depth == 0 {
+            return None;
+        }
+        self.part(depth - 1)
+    }
+
+    /// The path without its last name. The one error is want of memory.
+    pub fn parent(&self, alloc: Global) -> Result<Path, AllocError>
+        requires below { self.now ≢ [] }
+        ensures { IfOk result (λ path. path ≡ parent self.now) }
+    {
+        self.front(alloc, self.depth() - 1)
+    }
+
+    /// The path without its last name, and that name. The one error is want of memory.
+    pub fn split_last(&self, alloc: Global) -> Result<(Path, &Name), AllocError>
+        requires below { self.now ≢ [] }
+        ensures whole { IfOk result (λ split. self.now ≡ split.0 ++ split.1.now ∷ []) }
+        ensures parent { IfOk result (λ split. split.0 ≡ parent self.now) }
+    {
+        let path = self.parent(alloc)?;
+        match self.last_name() {
+            Some(name) => Ok((path, name)),
+            None => unreachable!(),
         }
     }
 
@@ -122,18 +184,15 @@ impl Path {
         }
     }
 
-    /// The parts from the left, the filesystem's name first. It takes no memory.
-    pub fn parts(&self) -> Parts<'_>
-        ensures { parts_left result ≡ self.now }
-    {
-        match &self.place {
-            Some(place) => Parts::new(Some(&place.fs), place.names.as_slice()),
-            None => Parts::new(None, &[]),
-        }
-    }
-
     /// The order of paths: by the first name that differs, names by their bytes. A path stands before what is below it.
     pub fn cmp(&self, other: &Path) -> Ordering
+        ensures { result ≡ path_cmp self.now other.now }
+    {
+        self.order(other)
+    }
+
+    // How two paths stand to each other.
+    fn order(&self, other: &Path) -> Ordering
         ensures { result ≡ path_cmp self.now other.now }
     {
         match (&self.place, &other.place) {
@@ -161,11 +220,12 @@ impl Path {
     }
 
     /// The path with one name more. On the account the name is that of a filesystem, which `is_fs_name` of the contract says. The
-    /// one error is want of memory.
+    /// limits on length and depth are not looked at. The one error is want of memory.
     pub fn child(&self, alloc: Global, name: &Name) -> Result<Path, AllocError>
         requires filesystem { self.now ≡ [] → is_fs_name name.now ≡ true }
         ensures { IfOk result (λ path. path ≡ self.now ++ name.now ∷ []) }
     {
+        let _name = name.bytes();
         match &self.place {
             Some(place) => {
                 let mut names = copy_names(alloc, place.names.as_slice())?;
@@ -177,7 +237,7 @@ impl Path {
                     }),
                 })
             }
-            None => Ok(Path::root(alloc, FsName::of_name(alloc, name)?)),
+            None => Ok(Path::root(alloc, FsName::of_name(name.copy(alloc)?))),
         }
     }
 
@@ -194,6 +254,57 @@ impl Path {
             }),
             None => Ok(Path { place: None }),
         }
+    }
+}
+
+impl PartialEq for Path {
+    ghost use Rattle.std.specs.Ordering.{eq_by_cmp};
+    ghost use Rattle.std.specs.Cmp.{partial_equiv_from_equiv};
+    ghost use Rattle.path_text.specs.Paths.{path_cmp, path_eq_equiv};
+
+    ghost eq = { eq_by_cmp path_cmp };
+
+    ghost laws = { partial_equiv_from_equiv path_eq_equiv };
+
+    fn eq(&self, other: &Path) -> bool {
+        self.order(other).is_eq()
+    }
+}
+
+impl Eq for Path {
+    ghost use Rattle.path_text.specs.Paths.{path_eq_equiv};
+
+    ghost laws = { path_eq_equiv };
+}
+
+impl PartialOrd for Path {
+    ghost use Rattle.std.specs.Ordering.{as_partial_cmp};
+    ghost use Rattle.std.specs.Cmp.{partial_order_from_total};
+    ghost use Rattle.path_text.specs.Paths.{path_cmp, path_cmp_total};
+
+    ghost partial_cmp = { as_partial_cmp path_cmp };
+
+    ghost laws = { partial_order_from_total path_cmp_total };
+
+    fn partial_cmp(&self, other: &Path) -> Option<Ordering> {
+        Some(self.order(other))
+    }
+}
+
+impl Ord for Path {
+    ghost use Rattle.std.proofs.Common.{refl};
+    ghost use Rattle.path_text.specs.Paths.{path_cmp, path_cmp_total};
+
+    ghost cmp = { path_cmp };
+
+    ghost total = { path_cmp_total };
+
+    ghost matches_partial_cmp = { λ x y. refl };
+
+    ghost matches_eq = { λ x y. refl };
+
+    fn cmp(&self, other: &Path) -> Ordering {
+        self.order(other)
     }
 }
 

@@ -1,12 +1,14 @@
-ghost use Rattle.std.specs.Prelude.{◌≡◌, ◌≢◌, ◌≤◌, ◌<◌, ℕ, List, length, count_by, position, IfOk, IfErr};
-ghost use Rattle.std.specs.List.{slice_split};
+ghost use Rattle.std.specs.Prelude.{◌≡◌, ◌≢◌, ◌≤◌, ◌<◌, true, ℕ, List, length, count_by, position, IfOk, IfErr};
+ghost use Rattle.std.specs.List.{list_all, slice_split};
 ghost use Rattle.std.specs.Str.Lossy.{utf8_valid_len};
-ghost use Rattle.path_text.specs.Texts.{KeepsLimits, Spells, inner, is_control, is_dots, is_slash, part_fault, parts_fault, plain_path, size_fault, split_parts, text_fault, without_end};
+ghost use Rattle.path_text.specs.Names.{are_parts, is_control, is_dots, is_name, is_slash};
+ghost use Rattle.path_text.specs.Texts.{KeepsLimits, Spells, inner, part_fault, parts_fault, plain_path, size_fault, split_parts, text_fault, without_end};
 ghost use Rattle.path_text.specs.Faults.{Answers, IsPathFault};
 ghost use Rattle.path_text.specs.declared.fault.PathFault.{PathFault};
 ghost use Rattle.path_text.specs.declared.fault.TargetStop.{TargetStop};
 
 use super::fault::{PathFault, TargetStop};
+use super::limits::{DEPTH_MOST, NAME_MOST, PATH_MOST};
 use super::name::{Name, is_fs_name};
 use super::path::Path;
 use std::alloc::{AllocError, Global};
@@ -38,10 +40,7 @@ fn path_of_text(alloc: Global, text: &[u8]) -> Result<Path, TargetStop>
     if let Some(fault) = text_fault(text) {
         return Err(TargetStop::Fault(fault));
     }
-    match path_between(alloc, inner(text)) {
-        Ok(path) => Ok(path),
-        Err(_) => Err(TargetStop::NoMemory),
-    }
+    Ok(path_between(alloc, inner(text))?)
 }
 
 // The first fault of a text.
@@ -109,13 +108,13 @@ fn without_end(rest: &[u8]) -> &[u8]
 fn size_fault(rest: &[u8]) -> Option<PathFault>
     ensures { result ≡ size_fault rest.now }
 {
-    if 1024 < rest.len() {
+    if PATH_MOST < rest.len() {
         return Some(PathFault::PathTooLong);
     }
     if rest.is_empty() {
         return None;
     }
-    if 60 <= slashes(rest) {
+    if DEPTH_MOST <= slashes(rest) {
         return Some(PathFault::TooDeep);
     }
     parts_fault(rest)
@@ -155,7 +154,7 @@ fn part_fault(place: usize, part: &[u8]) -> Option<PathFault>
         }
     } else if is_dots(part) {
         Some(PathFault::DotName(place))
-    } else if 255 < part.len() {
+    } else if NAME_MOST < part.len() {
         Some(PathFault::NameTooLong(place))
     } else {
         None
@@ -171,6 +170,7 @@ fn is_dots(part: &[u8]) -> bool
 // The path whose parts stand between the slashes.
 #[tactic(auto, unfolding(crate::specs::Texts::split_parts))]
 fn path_between(alloc: Global, rest: &[u8]) -> Result<Path, AllocError>
+    requires { are_parts (split_parts rest.now) ≡ true }
     ensures { IfOk result (λ path. path ≡ split_parts rest.now) }
 {
     if rest.is_empty() {
@@ -180,6 +180,7 @@ fn path_between(alloc: Global, rest: &[u8]) -> Result<Path, AllocError>
 }
 
 fn names_between(alloc: Global, rest: &[u8]) -> Result<Vec<Name>, AllocError>
+    requires { list_all is_name (slice_split is_slash rest.now) ≡ true }
     ensures { IfOk result (λ names. names.items ≡ slice_split is_slash rest.now) }
 {
     let mut names = Vec::new(alloc);

@@ -39,18 +39,12 @@ fn target_parts(alloc: Global, target: &[u8]) -> Result<(Path, Query), TargetSto
     ensures value { IfOk result (λ read. target_parts target.now ≡ Ok read) }
     ensures fault { IfErr result (λ stop. stop ≢ TargetStop.NoMemory → target_parts target.now ≡ Err stop) }
 {
-    let path = match target_path(alloc, target) {
-        Ok(path) => path,
-        Err(stop) => return Err(stop),
-    };
+    let path = target_path(alloc, target)?;
     let query = query_piece(target);
     if has_bad_query(query) {
         return Err(TargetStop::BadQuery);
     }
-    match query_pairs(alloc, query) {
-        Ok(query) => Ok((path, query)),
-        Err(_) => Err(TargetStop::NoMemory),
-    }
+    Ok((path, query_pairs(alloc, query)?))
 }
 
 #[tactic(auto, unfolding(crate::specs::Targets::target_path))]
@@ -65,10 +59,8 @@ fn target_path(alloc: Global, target: &[u8]) -> Result<Path, TargetStop>
     if let Some(at) = bad_escape(piece) {
         return Err(TargetStop::Fault(PathFault::BadEscape(at)));
     }
-    match decoded(alloc, piece) {
-        Ok(text) => read_plain(alloc, text.as_slice()),
-        Err(_) => Err(TargetStop::NoMemory),
-    }
+    let text = decoded(alloc, piece)?;
+    read_plain(alloc, text.as_slice())
 }
 
 // The target up to its first `?`.

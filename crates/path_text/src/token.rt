@@ -5,7 +5,7 @@ ghost use Rattle.std.specs.Result.{result_ok};
 ghost use Rattle.base64.specs.Engines.{standard};
 ghost use Rattle.base64.specs.GeneralPurpose.{decoded_of};
 ghost use Rattle.path_text.specs.Texts.{KeepsLimits, path_text, plain_path};
-ghost use Rattle.path_text.specs.Tokens.{IsToken, full_text, if_said, is_on_page, path_said, token_bytes, token_path, token_text};
+ghost use Rattle.path_text.specs.Tokens.{IsToken, full_text, path_if_said, is_on_page, path_said, token_bytes, token_path, token_text};
 
 use super::fault::TargetStop;
 use super::name::{FsName, Name};
@@ -75,7 +75,7 @@ fn path_said(alloc: Global, fs: Option<&FsName>, bytes: &[u8]) -> Result<Option<
 {
     let text = full_text(alloc, fs, bytes)?;
     match plain_path(alloc, text.as_slice())? {
-        Some(path) => if_said(alloc, fs, bytes, path),
+        Some(path) => path_if_said(alloc, fs, bytes, path),
         None => Ok(None),
     }
 }
@@ -103,15 +103,15 @@ fn plain_path(alloc: Global, text: &[u8]) -> Result<Option<Path>, AllocError>
     }
 }
 
-#[tactic(auto, unfolding(crate::specs::Tokens::if_said))]
-fn if_said(
+#[tactic(auto, unfolding(crate::specs::Tokens::path_if_said))]
+fn path_if_said(
     alloc: Global,
     fs: Option<&FsName>,
     bytes: &[u8],
     path: Path,
 ) -> Result<Option<Path>, AllocError>
     requires { KeepsLimits path }
-    ensures value { IfOk result (λ found. found ≡ if_said (option_copied fs.entry) bytes.now path) }
+    ensures value { IfOk result (λ found. found ≡ path_if_said (option_copied fs.entry) bytes.now path) }
     ensures limits { IfOk result (λ found. IfSome found KeepsLimits) }
 {
     let said = token_bytes(alloc, fs, &path)?;

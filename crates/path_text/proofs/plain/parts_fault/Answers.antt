@@ -3,7 +3,8 @@ use Rattle.std.proofs.lemmas.Iterator.Splits.{YieldsList-from_slice_split}
 use Rattle.std.proofs.lemmas.Iterator.Consumers.{YieldsList-turn, YieldsList-end}
 use Rattle.std.proofs.lemmas.List.{at_drop_all, length_push}
 use Rattle.std.specs.List.{slice_split}
-use Rattle.path_text.specs.Texts.{is_slash, parts_fault}
+use Rattle.path_text.specs.Names.{is_slash}
+use Rattle.path_text.specs.Texts.{parts_fault}
 use Rattle.path_text.proofs.TextLemmas.{parts_fault-found, parts_fault-passed}
 use Rattle.path_text.proofs.plain.parts_fault.Goals as goal
 

@@ -1,6 +1,7 @@
 use Rattle.std.proofs.Common.{◌≡◌, length, drop}
 use Rattle.std.specs.List.{slice_split}
-use Rattle.path_text.specs.Texts.{is_slash, parts_fault}
+use Rattle.path_text.specs.Names.{is_slash}
+use Rattle.path_text.specs.Texts.{parts_fault}
 use Rattle.path_text.proofs.plain.parts_fault.Given as goal
 
 abbrev pub invariant-loop-part : goal.invariant-loop-part

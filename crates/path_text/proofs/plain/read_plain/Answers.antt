@@ -2,22 +2,21 @@ use Rattle.std.proofs.Common.{◌≡◌, ◌≢◌, ℕ, List, true, Ok, Err, If
 use Rattle.std.specs.List.{list_all}
 use Rattle.path_text.specs.declared.fault.TargetStop.TheVariants.{Fault, NoMemory}
 use Rattle.path_text.specs.Faults.{Answers}
-use Rattle.path_text.specs.Texts.{is_byte, plain_path}
+use Rattle.path_text.specs.Texts.{plain_path}
 use Rattle.path_text.proofs.GrammarLemmas.{path_is_spelled}
 use Rattle.path_text.proofs.ReadLemmas.{spelled_is_read}
 use Rattle.path_text.proofs.RefusalLemmas.{answers_of, ok_as, plain_stopped, plain_stops, stopped_by}
-use Rattle.path_text.proofs.TokenLemmas.{all_bytes}
 use Rattle.path_text.proofs.plain.read_plain.Goals as goal
 
 pub returns-clause-spelled : goal.returns-clause-spelled
 returns-clause-spelled c =
     ok_as c.path_of_text.result _ c.path_of_text.ensures.path
-    (λ path e. (path_is_spelled c.args.text.now path (all_bytes c.args.text.now (λ i within. omega (arith, c.type_inv.text i))) e).1)
+    (λ path e. (path_is_spelled c.args.text.now path e).1)
 
 pub returns-clause-limits : goal.returns-clause-limits
 returns-clause-limits c =
     ok_as c.path_of_text.result _ c.path_of_text.ensures.path
-    (λ path e. (path_is_spelled c.args.text.now path (all_bytes c.args.text.now (λ i within. omega (arith, c.type_inv.text i))) e).0)
+    (λ path e. (path_is_spelled c.args.text.now path e).0)
 
 pub returns-clause-only : goal.returns-clause-only
 returns-clause-only c = λ path limits is.

@@ -9,4 +9,4 @@ returns-in_default c =
 
 pub returns : goal.returns
 returns c =
-    rw (c.in_ok-push_escaped_names.ensures, c.names.ensures, c.in_ok-push_escaped.ensures, c.bytes.ensures, c.in_ok-text.ensures.ok) (written_parts c.args.path.now c.in-Some.fs.now c.in-Some.ensures)
+    rw (c.in_ok-push_escaped_names.ensures, c.names.ensures, c.in_ok-push_escaped.ensures, c.bytes.ensures.value, c.in_ok-text.ensures.ok) (written_parts c.args.path.now c.in-Some.fs.now c.in-Some.ensures)

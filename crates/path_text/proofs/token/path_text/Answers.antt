@@ -9,4 +9,4 @@ returns-in_default c =
 
 pub returns : goal.returns
 returns c =
-    rw (c.in_ok-push_names.ensures, c.names.ensures, c.in_ok-extend_from_slice.ensures.items, c.in_ok-push.ensures.items, c.bytes.ensures, c.new-text.ensures.items) (text_of_parts c.args.path.now c.in-Some.fs.now c.in-Some.ensures)
+    rw (c.in_ok-push_names.ensures, c.names.ensures, c.in_ok-extend_from_slice.ensures.items, c.in_ok-push.ensures.items, c.bytes.ensures.value, c.new-text.ensures.items) (text_of_parts c.args.path.now c.in-Some.fs.now c.in-Some.ensures)

@@ -1,0 +1,6 @@
+use Rattle.std.proofs.lemmas.Str.{IsUtf8-from_is_utf8}
+use Rattle.path_text.proofs.NameLemmas.{named}
+use Rattle.path_text.proofs.name.Name.of_bytes.Goals as goal
+
+pub unreachable-requires : goal.unreachable-requires
+unreachable-requires c = c.in-Err.ensures.cases.0 (IsUtf8-from_is_utf8 c.args.bytes.now (named c.args.bytes.now c.requires).utf8)

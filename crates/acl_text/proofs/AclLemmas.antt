@@ -13,27 +13,33 @@ use Rattle.acl_text.specs.declared.acl.AclFault.TheVariants.{TooMany}
 use Rattle.acl_text.specs.declared.acl.AclFault.{AclFault}
 use Rattle.acl_text.specs.declared.acl.AclPair.{AclPair}
 use Rattle.std.proofs.lemmas.Cmp.{tied_itself}
+use Rattle.std.proofs.lemmas.List.{nil_from_length}
+use Rattle.acl_text.specs.declared.scope.Scope.{Scope}
+use Rattle.acl_text.specs.declared.scope.Scope.TheVariants.{Access, Default}
 use Rattle.acl_text.specs.declared.who.Who.{Who}
 use Rattle.acl_text.specs.declared.who.Who.TheVariants.{Owner, User, OwningGroup, Group, Mask, Other}
 use Rattle.acl_text.specs.declared.perm.ModeBits.{ModeBits}
+use Rattle.acl_text.specs.Scopes.{in_scope}
 use Rattle.acl_text.specs.Whos.{who_cmp, is_named, is_base, is_mask}
+use Rattle.acl_text.specs.Held.{AreHeld}
 use Rattle.acl_text.specs.AclMaps.{AclMap, has_named, union_of, base_of, without_mask, masked}
 use Rattle.acl_text.specs.Acls.{IsComplete, IsAclMap, IsAcl}
-use Rattle.acl_text.specs.AclChanges.{in_scope, names, gives_mask, given_in, changed_scope, default_start, changed_default, is_over, pair_of, missing_in, names_item, lists, without, removed_scope, drops_default, removed_default, group_holder, mode_set}
+use Rattle.acl_text.specs.AclChanges.{names, gives_mask, given_in, changed_scope, default_start, changed_default, is_over, pair_of, missing_in, names_item, lists, without, removed_scope, drops_default, removed_default, group_holder, mode_map, mode_set}
 use Rattle.std.specs.FinMap.{put}
 use Rattle.std.specs.FinMap.Entries.{where_key, by_order}
 use Rattle.acl_text.proofs.WhoLemmas.{who_cmp_total, who_cmp-IsAntisymmetric}
 use Rattle.acl_text.proofs.EntryLemmas.{sorted-entries, entries-retain_keys}
 
 -- the entries of a map that is an access control list
-pub acl_entries : (m : AclMap) → IsAclMap m → IsAcl (fin.entries m)
-acl_entries m h = record {
+pub acl_entries : (m : AclMap) → IsAclMap m → AreHeld (fin.entries m) → IsAcl (fin.entries m)
+acl_entries m h held = record {
   in_order = sorted-entries m;
   owner = subst IsSome (fin.get-entries m Owner) h.complete.owner;
   owning_group = subst IsSome (fin.get-entries m OwningGroup) h.complete.owning_group;
   other = subst IsSome (fin.get-entries m Other) h.complete.other;
   mask = λ named. subst IsSome (fin.get-entries m Mask) (h.complete.mask named);
   few = h.few;
+  held = held;
 }
 
 -- ---- who has an entry after an entry was put
@@ -55,16 +61,16 @@ has-retain_keys m p q stays h =
 
 -- ---- the entries of a list, put in turn
 
-abbrev step : Bool → AclMap → Bool × Who × ℕ → AclMap
+abbrev step : Scope → AclMap → Scope × Who × ℕ → AclMap
 step default m e = cond (in_scope default e.0) (fin.insert m e.1 e.2) m
 
 has-step : (b : Bool) (m : AclMap) (k : Who) (v : ℕ) (q : Who) → IsSome (fin.get m q) → IsSome (fin.get (cond b (fin.insert m k v) m) q)
 has-step true m k v q h = has-insert m k v q h
 has-step false m k v q h = h
 
-pub has-given_in : (default : Bool) (list : List (Bool × Who × ℕ)) (m : AclMap) (q : Who) → IsSome (fin.get m q) → IsSome (fin.get (given_in default list m) q)
-has-given_in default [] m q h = h
-has-given_in default (e ∷ es) m q h = has-given_in default es _ q (has-step (in_scope default e.0) m e.1 e.2 q h)
+pub has-given_in : (scope : Scope) (list : List (Scope × Who × ℕ)) (m : AclMap) (q : Who) → IsSome (fin.get m q) → IsSome (fin.get (given_in scope list m) q)
+has-given_in scope [] m q h = h
+has-given_in scope (e ∷ es) m q h = has-given_in scope es _ q (has-step (in_scope scope e.0) m e.1 e.2 q h)
 
 pub is_mask-Mask : (w : Who) → is_mask w ≡ true → w ≡ Mask
 is_mask-Mask Owner e = absurd (false≢true e)
@@ -80,13 +86,13 @@ mask_put true false m k v is e = absurd (false≢true e)
 mask_put false b m k v is e = absurd (false≢true e)
 
 -- a mask that a list gives is there
-pub given_mask : (default : Bool) (list : List (Bool × Who × ℕ)) (m : AclMap) → gives_mask default list ≡ true → IsSome (fin.get (given_in default list m) Mask)
-given_mask default [] m = λ e. absurd (false≢true e)
-given_mask default (e ∷ es) m =
-    elim (in_scope default e.0 && is_mask e.1) as (λ b. (in_scope default e.0 && is_mask e.1) ≡ b → (b || gives_mask default es) ≡ true
-    → IsSome (fin.get (given_in default es (step default m e)) Mask)) [
-      | true ↦ λ is _. has-given_in default es _ Mask (mask_put (in_scope default e.0) (is_mask e.1) m e.1 e.2 (is_mask-Mask e.1) is)
-      | false ↦ λ is more. given_mask default es _ more
+pub given_mask : (scope : Scope) (list : List (Scope × Who × ℕ)) (m : AclMap) → gives_mask scope list ≡ true → IsSome (fin.get (given_in scope list m) Mask)
+given_mask scope [] m = λ e. absurd (false≢true e)
+given_mask scope (e ∷ es) m =
+    elim (in_scope scope e.0 && is_mask e.1) as (λ b. (in_scope scope e.0 && is_mask e.1) ≡ b → (b || gives_mask scope es) ≡ true
+    → IsSome (fin.get (given_in scope es (step scope m e)) Mask)) [
+      | true ↦ λ is _. has-given_in scope es _ Mask (mask_put (in_scope scope e.0) (is_mask e.1) m e.1 e.2 (is_mask-Mask e.1) is)
+      | false ↦ λ is more. given_mask scope es _ more
     ] refl
 
 -- ---- named entries
@@ -168,11 +174,11 @@ HasBase-retain_keys m p a b c h = record {
   other = has-retain_keys m p Other c h.other;
 }
 
-pub HasBase-given_in : (default : Bool) (list : List (Bool × Who × ℕ)) (m : AclMap) → HasBase m → HasBase (given_in default list m)
-HasBase-given_in default list m h = record {
-  owner = has-given_in default list m Owner h.owner;
-  owning_group = has-given_in default list m OwningGroup h.owning_group;
-  other = has-given_in default list m Other h.other;
+pub HasBase-given_in : (scope : Scope) (list : List (Scope × Who × ℕ)) (m : AclMap) → HasBase m → HasBase (given_in scope list m)
+HasBase-given_in scope list m h = record {
+  owner = has-given_in scope list m Owner h.owner;
+  owning_group = has-given_in scope list m OwningGroup h.owning_group;
+  other = has-given_in scope list m Other h.other;
 }
 
 with_mask : (m : AclMap) → HasBase m → (has_named m ≡ true → IsSome (fin.get m Mask)) → IsComplete m
@@ -188,10 +194,10 @@ IsComplete-masked false m h mask =
           (λ still. absurd (false≢true (sym named ∙ has_named-retain_keys m (λ who. not (is_mask who)) still)))
     ] refl
 
-pub IsComplete-changed_scope : (default : Bool) (list : List (Bool × Who × ℕ)) (m : AclMap) → IsComplete m → IsComplete (changed_scope default list m)
-IsComplete-changed_scope default list m h =
-    elim (names default list) as (λ b. IsComplete (cond b (masked (gives_mask default list) (given_in default list m)) m)) [
-      | true ↦ IsComplete-masked (gives_mask default list) _ (HasBase-given_in default list m (base_complete m h)) (given_mask default list m)
+pub IsComplete-changed_scope : (scope : Scope) (list : List (Scope × Who × ℕ)) (m : AclMap) → IsComplete m → IsComplete (changed_scope scope list m)
+IsComplete-changed_scope scope list m h =
+    elim (names scope list) as (λ b. IsComplete (cond b (masked (gives_mask scope list) (given_in scope list m)) m)) [
+      | true ↦ IsComplete-masked (gives_mask scope list) _ (HasBase-given_in scope list m (base_complete m h)) (given_mask scope list m)
       | false ↦ h
     ]
 
@@ -203,10 +209,10 @@ pub IsComplete-default_start : (default : Option AclMap) (access : AclMap) → I
 IsComplete-default_start None access h d = IsComplete-base_of access h
 IsComplete-default_start (Some m) access h d = d
 
-pub IsComplete-changed_default : (list : List (Bool × Who × ℕ)) (default : Option AclMap) (access : AclMap) → IsComplete access → IfSome default IsComplete → IfSome (changed_default list default access) IsComplete
+pub IsComplete-changed_default : (list : List (Scope × Who × ℕ)) (default : Option AclMap) (access : AclMap) → IsComplete access → IfSome default IsComplete → IfSome (changed_default list default access) IsComplete
 IsComplete-changed_default list default access h d =
-    elim (names true list) as (λ b. IfSome (cond b (Some (changed_scope true list (default_start default access))) default) IsComplete) [
-      | true ↦ IsComplete-changed_scope true list _ (IsComplete-default_start default access h d)
+    elim (names Default list) as (λ b. IfSome (cond b (Some (changed_scope Default list (default_start default access))) default) IsComplete) [
+      | true ↦ IsComplete-changed_scope Default list _ (IsComplete-default_start default access h d)
       | false ↦ d
     ]
 
@@ -222,27 +228,27 @@ HasBase-from_missing m e =
     let p = none_missing (fin.get m Owner) (fin.get m OwningGroup) (fin.get m Other) e in
     record { owner = p.0; owning_group = p.1; other = p.2 }
 
-pub IsComplete-set : (list : List (Bool × Who × ℕ)) → missing_in (given_in false list fin.empty) ≡ None → IsComplete (masked (gives_mask false list) (given_in false list fin.empty))
+pub IsComplete-set : (list : List (Scope × Who × ℕ)) → missing_in (given_in Access list fin.empty) ≡ None → IsComplete (masked (gives_mask Access list) (given_in Access list fin.empty))
 IsComplete-set list e =
-    IsComplete-masked (gives_mask false list) _ (HasBase-from_missing (given_in false list fin.empty) e) (given_mask false list fin.empty)
+    IsComplete-masked (gives_mask Access list) _ (HasBase-from_missing (given_in Access list fin.empty) e) (given_mask Access list fin.empty)
 
-pub IsComplete-removed_scope : (default : Bool) (list : List (Bool × Who)) (m : AclMap) → IsComplete m → IsComplete (removed_scope default list m)
-IsComplete-removed_scope default list m h =
-    elim (names_item default list) as (λ b. IsComplete (cond b (masked false (without default list m)) m)) [
+pub IsComplete-removed_scope : (scope : Scope) (list : List (Scope × Who)) (m : AclMap) → IsComplete m → IsComplete (removed_scope scope list m)
+IsComplete-removed_scope scope list m h =
+    elim (names_item scope list) as (λ b. IsComplete (cond b (masked false (without scope list m)) m)) [
       | true ↦ IsComplete-masked false _ (HasBase-retain_keys m _ refl refl refl (base_complete m h)) (λ e. absurd (false≢true e))
       | false ↦ h
     ]
 
-pub IsComplete-removed_default : (list : List (Bool × Who)) (default : Option AclMap) → IfSome default IsComplete → IfSome (removed_default list default) IsComplete
+pub IsComplete-removed_default : (list : List (Scope × Who)) (default : Option AclMap) → IfSome default IsComplete → IfSome (removed_default list default) IsComplete
 IsComplete-removed_default list default h =
-    elim (drops_default list) as (λ b. IfSome (cond b None (option_map (removed_scope true list) default)) IsComplete) [
+    elim (drops_default list) as (λ b. IfSome (cond b None (option_map (removed_scope Default list) default)) IsComplete) [
       | true ↦ tt
       | false ↦ each default h
     ]
   where
-    each : (d : Option AclMap) → IfSome d IsComplete → IfSome (option_map (removed_scope true list) d) IsComplete
+    each : (d : Option AclMap) → IfSome d IsComplete → IfSome (option_map (removed_scope Default list) d) IsComplete
     each None h = tt
-    each (Some m) h = IsComplete-removed_scope true list m h
+    each (Some m) h = IsComplete-removed_scope Default list m h
 
 -- ---- a mode
 
@@ -270,6 +276,31 @@ IsAclMap-mode_set bits m h =
     let holder = holder_there m h in
     let group = IsAclMap-insert _ (group_holder m) bits.group (has-insert m Owner bits.owner _ holder.0) holder.1 owner in
     IsAclMap-insert _ Other bits.other group.complete.other refl group
+
+-- ---- the three base entries alone
+
+pub entries-mode_map : (bits : ModeBits) → fin.entries (mode_map bits) ≡ (Owner, bits.owner) ∷ (OwningGroup, bits.group) ∷ (Other, bits.other) ∷ []
+entries-mode_map bits =
+    fin.entries-insert who_cmp_total _ Other bits.other
+    ∙ ap (put who_cmp Other bits.other) (fin.entries-insert who_cmp_total _ OwningGroup bits.group
+    ∙ ap (put who_cmp OwningGroup bits.group) (fin.entries-insert who_cmp_total fin.empty Owner bits.owner ∙ ap (put who_cmp Owner bits.owner) none))
+  where
+    none : fin.entries {X = ℕ} {R = who_cmp} fin.empty ≡ []
+    none = nil_from_length _ (sym (fin.len-entries _) ∙ fin.len-empty who_cmp ℕ)
+
+pub IsAclMap-mode_map : (bits : ModeBits) → IsAclMap (mode_map bits)
+IsAclMap-mode_map bits =
+    let m = mode_map bits in
+    let is = entries-mode_map bits in
+    record {
+      complete = record {
+        owner = subst IsSome (sym (fin.get-entries m Owner ∙ ap (find who_cmp Owner) is)) refl;
+        owning_group = subst IsSome (sym (fin.get-entries m OwningGroup ∙ ap (find who_cmp OwningGroup) is)) refl;
+        other = subst IsSome (sym (fin.get-entries m Other ∙ ap (find who_cmp Other) is)) refl;
+        mask = λ named. absurd (false≢true (sym (ap (list_any (λ e. is_named e.0)) is) ∙ named));
+      };
+      few = subst (λ n. n ≤ 32) (sym (ap length is)) (omega arith);
+    }
 
 -- ---- what remove leaves is no longer than it was
 
@@ -325,7 +356,7 @@ few_masked m p h few =
         let long = length-retain_keys m p in
         omega (arith, gone, long, few)
 
-few_removed : (d : Bool) (list : List (Bool × Who)) (m : AclMap) → IsAclMap m → is_over (removed_scope d list m) ≡ false
+few_removed : (d : Scope) (list : List (Scope × Who)) (m : AclMap) → IsAclMap m → is_over (removed_scope d list m) ≡ false
 few_removed d list m h =
     few_is (length (fin.entries (removed_scope d list m)))
     (elim (names_item d list) as (λ b. length (fin.entries (cond b (masked false (without d list m)) m)) ≤ 32) [
@@ -336,20 +367,20 @@ few_removed d list m h =
     few_is : (n : ℕ) → n ≤ 32 → nat_lt 32 n ≡ false
     few_is n h = grind (arith, nat_tests)
 
-few_default : (list : List (Bool × Who)) (default : Option AclMap) → IfSome default IsAclMap → option_map_or is_over (removed_default list default) false ≡ false
+few_default : (list : List (Scope × Who)) (default : Option AclMap) → IfSome default IsAclMap → option_map_or is_over (removed_default list default) false ≡ false
 few_default list default h =
-    elim (drops_default list) as (λ b. option_map_or is_over (cond b None (option_map (removed_scope true list) default)) false ≡ false) [ true ↦ refl | false ↦ each default h ]
+    elim (drops_default list) as (λ b. option_map_or is_over (cond b None (option_map (removed_scope Default list) default)) false ≡ false) [ true ↦ refl | false ↦ each default h ]
   where
-    each : (d : Option AclMap) → IfSome d IsAclMap → option_map_or is_over (option_map (removed_scope true list) d) false ≡ false
+    each : (d : Option AclMap) → IfSome d IsAclMap → option_map_or is_over (option_map (removed_scope Default list) d) false ≡ false
     each None h = refl
-    each (Some m) h = few_removed true list m h
+    each (Some m) h = few_removed Default list m h
 
 -- so it is never refused
-pub remove_fits : (list : List (Bool × Who)) (access : AclMap) (default : Option AclMap) → IsAclMap access → IfSome default IsAclMap
-    → is_ok {T = AclPair} {E = AclFault} (pair_of (removed_scope false list access) (removed_default list default)) ≡ true
+pub remove_fits : (list : List (Scope × Who)) (access : AclMap) (default : Option AclMap) → IsAclMap access → IfSome default IsAclMap
+    → is_ok {T = AclPair} {E = AclFault} (pair_of (removed_scope Access list access) (removed_default list default)) ≡ true
 remove_fits list access default a d =
-    ap (λ b. is_ok {T = AclPair} {E = AclFault} (cond b (Err TooMany) (Ok (record { access = fin.entries (removed_scope false list access); default = option_map fin.entries (removed_default list default) }))))
-    ((λ i. few_removed false list access a i || few_default list default d i))
+    ap (λ b. is_ok {T = AclPair} {E = AclFault} (cond b (Err TooMany) (Ok (record { access = fin.entries (removed_scope Access list access); default = option_map fin.entries (removed_default list default) }))))
+    ((λ i. few_removed Access list access a i || few_default list default d i))
 
 pub no_err : {T E : Type 0} (r : Result T E) (P : E → Type 0) → is_ok r ≡ true → IfErr r P
 no_err (Ok x) P h = tt

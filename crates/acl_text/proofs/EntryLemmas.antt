@@ -6,6 +6,7 @@ use Rattle.std.specs.FinMap.{put, is_sorted}
 use Rattle.std.specs.FinMap.Entries.{where_key, is_sorted-where_key, find-where_key, same_entries, is_sorted-put, by_order}
 use Rattle.acl_text.specs.declared.who.Who.{Who}
 use Rattle.acl_text.specs.Whos.{who_cmp}
+use Rattle.acl_text.specs.Held.{IsHeld, AreHeld}
 use Rattle.acl_text.specs.AclMaps.{AclMap}
 use Rattle.acl_text.specs.Places.{place_of, stands_in}
 use Rattle.std.proofs.lemmas.Bool.{false≢true}
@@ -122,3 +123,25 @@ put-free k v es at r e is =
     let free = place_free (stands_in k es) (place_of k es) at r e is in
     let new = put-new k v es free.0 in
     rw free.1 new
+
+-- what every entry keeps stays so where one is put, and where some are taken away
+pub held_put : (k : Who) (v : ℕ) (es : List (Who × ℕ)) → IsHeld (k, v) → AreHeld es → AreHeld (put who_cmp k v es)
+held_put k v [] new h = (new, tt)
+held_put k v (e ∷ es) new h =
+    elim (who_cmp k e.0) as (λ o. AreHeld (by_order o ((k, v) ∷ e ∷ es) ((e.0, v) ∷ es) (e ∷ put who_cmp k v es))) [
+      | Less ↦ (new, h)
+      | Equal ↦ ((h.0.0, new.1), h.1)
+      | Greater ↦ (h.0, held_put k v es new h.1)
+    ]
+
+pub held_put_or_kept : (b : Bool) (k : Who) (v : ℕ) (es : List (Who × ℕ)) → IsHeld (k, v) → AreHeld es → AreHeld (cond b (put who_cmp k v es) es)
+held_put_or_kept true k v es new h = held_put k v es new h
+held_put_or_kept false k v es new h = h
+
+pub held_kept : (p : Who → Bool) (es : List (Who × ℕ)) → AreHeld es → AreHeld (where_key who_cmp p es)
+held_kept p [] h = tt
+held_kept p (e ∷ es) h =
+    elim (p e.0) as (λ b. AreHeld (cond b (e ∷ where_key who_cmp p es) (where_key who_cmp p es))) [
+      | true ↦ (h.0, held_kept p es h.1)
+      | false ↦ held_kept p es h.1
+    ]

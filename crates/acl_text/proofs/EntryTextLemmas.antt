@@ -5,12 +5,14 @@ use Rattle.std.proofs.lemmas.Bool.Decides.{nat_tests, Decides-eqb}
 use Rattle.std.proofs.lemmas.Slice.Eq.{bytes_eq-Decides}
 use Rattle.std.proofs.lemmas.Option.{option_and_then_some}
 use Rattle.std.proofs.lemmas.List.{take_at, get_or-append-add, take-append-drop, drop_more, drop_all, append-nil}
+use Rattle.acl_text.specs.declared.scope.Scope.{Scope}
+use Rattle.acl_text.specs.declared.scope.Scope.TheVariants.{Access, Default}
 use Rattle.acl_text.specs.declared.who.Who.{Who}
 use Rattle.acl_text.specs.declared.who.Who.TheVariants.{Owner, User, OwningGroup, Group, Mask, Other}
 use Rattle.acl_text.specs.Ids.{is_id}
-use Rattle.acl_text.specs.Whos.{id_in}
+use Rattle.acl_text.specs.Whos.{id_in, is_whose}
 use Rattle.acl_text.specs.PermTexts.{perm_text, perm_of, perm_at, letter}
-use Rattle.acl_text.specs.AclTexts.{kind_text, who_text, scope_text, entry_text, is_whose, SpellsEntry, SpellsItem, has_front, scope_of, person_of, who_of, bare_of, who_and_perm_of, entry_of, or_bare, item_of}
+use Rattle.acl_text.specs.AclTexts.{kind_text, who_text, scope_text, entry_text, SpellsEntry, SpellsItem, has_front, scope_of, person_of, who_of, bare_of, who_and_perm_of, entry_of, or_bare, item_of}
 use Rattle.acl_text.proofs.PermLemmas.{perm_of-text, perm_is}
 
 -- ---- what is spelled is read
@@ -54,14 +56,14 @@ who_of-kind (Group id) = refl
 who_of-kind Mask = refl
 who_of-kind Other = refl
 
-pub scope_of-text : (d : Bool) (w : Who) (more : List ℕ) → scope_of (scope_text d ++ (who_text w ++ more)) ≡ (d, who_text w ++ more)
-scope_of-text true w more = refl
-scope_of-text false Owner more = refl
-scope_of-text false (User id) more = refl
-scope_of-text false OwningGroup more = refl
-scope_of-text false (Group id) more = refl
-scope_of-text false Mask more = refl
-scope_of-text false Other more = refl
+pub scope_of-text : (d : Scope) (w : Who) (more : List ℕ) → scope_of (scope_text d ++ (who_text w ++ more)) ≡ (d, who_text w ++ more)
+scope_of-text Default w more = refl
+scope_of-text Access Owner more = refl
+scope_of-text Access (User id) more = refl
+scope_of-text Access OwningGroup more = refl
+scope_of-text Access (Group id) more = refl
+scope_of-text Access Mask more = refl
+scope_of-text Access Other more = refl
 
 perm_at-text : (front : List ℕ) (p : ℕ) → p < 8 → perm_at (front ++ 58 ∷ perm_text p) (length front + 1) ≡ Some p
 perm_at-text front p h =
@@ -89,7 +91,7 @@ who_and_perm_of-text w p h small =
     ap who_of (take_at front tail _ (sym at)) ∙ who_of-text w h in
     λ i. cond (enough i) None (cond (colon i == 58) (option_and_then (λ perm. option_and_then (λ who. Some (who, perm)) (who i)) (perm i)) None)
 
-pub entry_of-text : (e : Bool × Who × ℕ) → is_whose e.1 ≡ true → e.2 < 8 → entry_of (entry_text e) ≡ Some e
+pub entry_of-text : (e : Scope × Who × ℕ) → is_whose e.1 ≡ true → e.2 < 8 → entry_of (entry_text e) ≡ Some e
 unfolding entry_of
 entry_of-text e h small =
     let scope = scope_of-text e.0 e.1 (58 ∷ perm_text e.2) in
@@ -98,7 +100,7 @@ entry_of-text e h small =
     λ i. option_and_then (λ x. Some ((scope i).0, x.0, x.1)) (who_and_perm_of (scope i).1) in
     read ∙ ap (option_and_then (λ x. Some (e.0, x.0, x.1))) (who_and_perm_of-text e.1 e.2 h small)
 
-pub item_of-text : (e : Bool × Who) → is_whose e.1 ≡ true → item_of (scope_text e.0 ++ who_text e.1) ≡ Some e
+pub item_of-text : (e : Scope × Who) → is_whose e.1 ≡ true → item_of (scope_text e.0 ++ who_text e.1) ≡ Some e
 unfolding item_of
 item_of-text e h =
     let scope : scope_of (scope_text e.0 ++ who_text e.1) ≡ (e.0, who_text e.1) =
@@ -108,16 +110,16 @@ item_of-text e h =
     λ i. option_and_then (λ w. Some ((scope i).0, w)) (or_bare (who_of (scope i).1) (scope i).1) in
     read ∙ ap (λ o. option_and_then (λ w. Some (e.0, w)) (or_bare o (who_text e.1))) (who_of-text e.1 h)
 
-scope_of-kind : (d : Bool) (w : Who) → scope_of (scope_text d ++ kind_text w) ≡ (d, kind_text w)
-scope_of-kind true w = refl
-scope_of-kind false Owner = refl
-scope_of-kind false (User id) = refl
-scope_of-kind false OwningGroup = refl
-scope_of-kind false (Group id) = refl
-scope_of-kind false Mask = refl
-scope_of-kind false Other = refl
+scope_of-kind : (d : Scope) (w : Who) → scope_of (scope_text d ++ kind_text w) ≡ (d, kind_text w)
+scope_of-kind Default w = refl
+scope_of-kind Access Owner = refl
+scope_of-kind Access (User id) = refl
+scope_of-kind Access OwningGroup = refl
+scope_of-kind Access (Group id) = refl
+scope_of-kind Access Mask = refl
+scope_of-kind Access Other = refl
 
-pub item_of-kind : (e : Bool × Who) → is_whose e.1 ≡ true → id_in e.1 ≡ [] → item_of (scope_text e.0 ++ kind_text e.1) ≡ Some e
+pub item_of-kind : (e : Scope × Who) → is_whose e.1 ≡ true → id_in e.1 ≡ [] → item_of (scope_text e.0 ++ kind_text e.1) ≡ Some e
 unfolding item_of
 item_of-kind e h none =
     let scope = scope_of-kind e.0 e.1 in
@@ -198,7 +200,7 @@ bare_is t w =
 
 scope_is : (t : List ℕ) → t ≡ scope_text (scope_of t).0 ++ (scope_of t).1
 scope_is t =
-    elim (has_front (codes "default:") t) as (λ b. has_front (codes "default:") t ≡ b → t ≡ scope_text (cond {A = Bool × List ℕ} b (true, drop 8 t) (false, t)).0 ++ (cond {A = Bool × List ℕ} b (true, drop 8 t) (false, t)).1) [
+    elim (has_front (codes "default:") t) as (λ b. has_front (codes "default:") t ≡ b → t ≡ scope_text (cond {A = Scope × List ℕ} b (Default, drop 8 t) (Access, t)).0 ++ (cond {A = Scope × List ℕ} b (Default, drop 8 t) (Access, t)).1) [
       | true ↦ λ is. front_is (codes "default:") t is
       | false ↦ λ _. refl
     ] refl
@@ -242,7 +244,7 @@ who_and_perm_is t w p =
           ] refl
     ] refl
 
-pub entry_is : (t : List ℕ) (e : Bool × Who × ℕ) → entry_of t ≡ Some e → SpellsEntry t e
+pub entry_is : (t : List ℕ) (e : Scope × Who × ℕ) → entry_of t ≡ Some e → SpellsEntry t e
 unfolding entry_of
 entry_is t e h =
     option_and_then_some _ (who_and_perm_of (scope_of t).1) e h (λ x is h.
@@ -250,7 +252,7 @@ entry_is t e h =
     let rest = who_and_perm_is (scope_of t).1 x.0 x.1 is in
     subst (SpellsEntry t) same (rest.0, rest.1, scope_is t ∙ ap (λ r. scope_text (scope_of t).0 ++ r) rest.2))
 
-item_from : (t : List ℕ) (o : Option Who) (e : Bool × Who) → who_of (scope_of t).1 ≡ o
+item_from : (t : List ℕ) (o : Option Who) (e : Scope × Who) → who_of (scope_of t).1 ≡ o
     → option_and_then (λ w. Some ((scope_of t).0, w)) (or_bare o (scope_of t).1) ≡ Some e → SpellsItem t e
 item_from t (Some w) e is h =
     let same : ((scope_of t).0, w) ≡ e = (cc) in
@@ -262,6 +264,6 @@ item_from t None e is h =
     let rest = bare_is (scope_of t).1 w found in
     subst (SpellsItem t) same (rest.0, inr (rest.1, scope_is t ∙ ap (λ r. scope_text (scope_of t).0 ++ r) rest.2)))
 
-pub item_is : (t : List ℕ) (e : Bool × Who) → item_of t ≡ Some e → SpellsItem t e
+pub item_is : (t : List ℕ) (e : Scope × Who) → item_of t ≡ Some e → SpellsItem t e
 unfolding item_of
 item_is t e h = item_from t (who_of (scope_of t).1) e refl h

@@ -9,3 +9,6 @@ pub mod TextLemmas
 pub mod ModeLemmas
 pub mod LawLemmas
 pub mod PrintLemmas
+pub mod FaultLemmas
+pub mod MaskLemmas
+pub mod ChangeLemmas

@@ -1,6 +1,6 @@
 -- Reading a list item by item, and looking for a repeated one.
-use Rattle.std.proofs.Common.{◌≡◌, ℕ, ◌+◌, ◌<◌, ◌≤◌, Bool, false, cond, List, [], ◌∷◌, ◌++◌, map, length, get_or, take, drop, Option, None, Some, is_none, Ok, Err, sym, ap, ◌∙◌, arith}
-use Rattle.std.specs.List.{filter_map, cons_option, list_any, position_from}
+use Rattle.std.proofs.Common.{◌≡◌, ℕ, ◌+◌, ◌<◌, ◌≤◌, Bool, true, false, cond, List, [], ◌∷◌, ◌++◌, map, filter, length, get_or, take, drop, Option, None, Some, is_none, Ok, Err, sym, ap, ◌∙◌, arith}
+use Rattle.std.specs.List.{AllByRecursion, filter_map, cons_option, list_any, position_from}
 use Rattle.std.proofs.lemmas.List.{drop_more, take_more, get_or-map, length-map, at_drop_all, take_all}
 use Rattle.std.proofs.lemmas.List.Elements.{filter_map-append}
 use denote.Ref.{Bor}
@@ -72,3 +72,12 @@ module _ {X : Type 0} (same : X → X → Bool) where
       ap (repeat_from same (take at xs)) (drop_more xs at x within ∙ ap (λ y. y ∷ drop (at + 1) xs) (sym is))
       ∙ ap (λ b. cond b (Some (length (take at xs))) (repeat_from same (take at xs ++ x ∷ []) (drop (at + 1) xs))) e
       ∙ ap (λ seen. repeat_from same seen (drop (at + 1) xs)) (sym (take_more xs at x within ∙ ap (λ y. take at xs ++ y ∷ []) (sym is)))
+
+-- what is so of all is so of those that a test keeps
+pub all_filtered : {X : Type 0} (P : X → Type 0) (p : X → Bool) (xs : List X) → AllByRecursion P xs → AllByRecursion P (filter p xs)
+all_filtered P p [] h = tt
+all_filtered P p (x ∷ xs) h =
+    elim (p x) as (λ b. AllByRecursion P (cond b (x ∷ filter p xs) (filter p xs))) [
+      | true ↦ (h.0, all_filtered P p xs h.1)
+      | false ↦ all_filtered P p xs h.1
+    ]

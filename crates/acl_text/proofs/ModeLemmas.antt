@@ -5,8 +5,27 @@ use Rattle.std.proofs.lemmas.Option.{option_and_then_some}
 use Rattle.acl_text.specs.declared.perm.ModeBits.{ModeBits}
 use Rattle.acl_text.specs.declared.acl.AclFault.{AclFault}
 use Rattle.acl_text.specs.declared.acl.AclFault.TheVariants.{BadOctal, BadSymbolic}
-use Rattle.acl_text.specs.PermTexts.{letter, last_letter, perm_text, symbolic_text, octal_text, AreBits, SpellsMode, SpellsUmask, perm_of, perm_at, sticky_letter, octal_digit, sticky_digit, octal_mode, symbolic_mode, has_symbolic_length, or_fault, mode_fault, permissions_of, umask_of}
+use Rattle.acl_text.specs.PermTexts.{letter, last_letter, perm_text, symbolic_text, octal_text, AreBits, SpellsPerm, SpellsMode, SpellsUmask, perm_of, perm_at, perm_in, sticky_letter, octal_digit, sticky_digit, octal_mode, symbolic_mode, has_symbolic_length, or_fault, mode_fault, permissions_of, umask_of}
 use Rattle.acl_text.proofs.PermLemmas.{below_8, perm_of-text, perm_is, octal_digit-text, octal_digit_is}
+
+-- ---- three letters
+
+pub perm_in-text : (t : List ℕ) (p : ℕ) → SpellsPerm t p → perm_in t ≡ Some p
+perm_in-text t p h = ap perm_in h.1 ∙ perm_of-text p h.0
+
+three : (t : List ℕ) → length t ≡ 3 → t ≡ slice_index t 0 ∷ slice_index t 1 ∷ slice_index t 2 ∷ []
+three [] e = absurd (omega arith)
+three (a ∷ []) e = absurd (omega arith)
+three (a ∷ b ∷ []) e = absurd (omega arith)
+three (a ∷ b ∷ c ∷ []) e = refl
+three (a ∷ b ∷ c ∷ x ∷ xs) e = absurd (omega arith)
+
+pub perm_in_is : (t : List ℕ) (p : ℕ) → perm_in t ≡ Some p → SpellsPerm t p
+perm_in_is t p =
+    elim (length t == 3) as (λ b. length t == 3 ≡ b → cond b (perm_at t 0) None ≡ Some p → SpellsPerm t p) [
+      | true ↦ λ is e. let h = perm_is (slice_index t 0) (slice_index t 1) (slice_index t 2) p e in (h.0, three t ((Decides-eqb (length t) 3).0 is) ∙ h.1)
+      | false ↦ λ _ e. (cc)
+    ] refl
 
 -- ---- what is spelled is read
 

@@ -1,5 +1,5 @@
 -- A text that commas part is read as the list that it spells, and what is read is spelled so.
-use Rattle.std.proofs.Common.{◌≡◌, ℕ, suc, ◌+◌, ◌==◌, ◌≤◌, Bool, true, false, cond, not, ◌&&◌, ◌||◌, nat_lt, bytes_eq, List, [], ◌∷◌, ◌++◌, length, Option, None, Some, is_none, Result, Ok, Err, IfOk, inl, inr, refl, sym, ap, subst, ◌∙◌, arith, append_assoc}
+use Rattle.std.proofs.Common.{◌≡◌, ℕ, suc, ◌+◌, ◌==◌, ◌<◌, ◌≤◌, Bool, true, false, cond, not, ◌&&◌, ◌||◌, nat_lt, bytes_eq, List, [], ◌∷◌, ◌++◌, length, Option, None, Some, is_none, Result, Ok, Err, IfOk, inl, inr, refl, sym, ap, subst, ◌∙◌, arith, append_assoc}
 use Rattle.std.specs.List.{AllByRecursion, list_any, list_all, slice_split, onto_first, join_with_byte, filter_map, cons_option, position_from}
 use Rattle.std.proofs.lemmas.Bool.{false≢true, ltb-true}
 use Rattle.std.proofs.lemmas.Bool.Decides.{nat_tests, Decides-eqb}
@@ -7,14 +7,17 @@ use Rattle.std.proofs.lemmas.List.{append-nil, nil_from_length}
 use Rattle.std.proofs.lemmas.List.Folds.{list_all-append}
 use Rattle.std.proofs.lemmas.List.Splits.{join_with_byte-slice_split}
 use Rattle.std.proofs.lemmas.Slice.Eq.{bytes_eq-Decides}
+use Rattle.acl_text.specs.declared.scope.Scope.{Scope}
+use Rattle.acl_text.specs.declared.scope.Scope.TheVariants.{Access, Default}
 use Rattle.acl_text.specs.declared.who.Who.{Who}
 use Rattle.acl_text.specs.declared.who.Who.TheVariants.{Owner, User, OwningGroup, Group, Mask, Other}
 use Rattle.acl_text.specs.declared.acl.AclFault.{AclFault}
-use Rattle.acl_text.specs.declared.acl.AclFault.TheVariants.{TooMany, BadEntry, Twice}
+use Rattle.acl_text.specs.declared.acl.AclFault.TheVariants.{TooMany, BadEntry, Twice, Missing, BadOctal, BadSymbolic}
 use Rattle.acl_text.specs.Ids.{superuser, is_id_byte, is_plain_id, is_id}
-use Rattle.acl_text.specs.Whos.{id_in}
+use Rattle.acl_text.specs.Whos.{id_in, is_whose}
+use Rattle.acl_text.specs.Held.{AreWhose, AreWritable}
 use Rattle.acl_text.specs.PermTexts.{perm_text}
-use Rattle.acl_text.specs.AclTexts.{kind_text, who_text, scope_text, is_whose, SpellsEntry, SpellsItem, EachSpells, NoneRepeats, IsListText, IsFirstUnread, IsFirstRepeat, IsListFault, items_of, values_of, or_bad, or_twice, unrepeated, repeat_from, list_of, entry_of, item_of, same_entry, same_item, IsAclText, IsRemoveText, acl_list_of, remove_list_of}
+use Rattle.acl_text.specs.AclTexts.{kind_text, who_text, scope_text, SpellsEntry, SpellsItem, EachSpells, NoneRepeats, IsListText, IsFirstUnread, IsFirstRepeat, IsFaultOf, IsListFault, items_of, values_of, or_bad, or_twice, unrepeated, repeat_from, list_of, entry_of, item_of, same_entry, same_item, IsAclText, IsRemoveText, acl_list_of, remove_list_of}
 use Rattle.acl_text.proofs.EntryTextLemmas.{entry_of-text, entry_is, item_of-text, item_of-kind, item_is}
 use Rattle.acl_text.specs.declared.acl.AclStop.{AclStop}
 use Rattle.acl_text.specs.declared.acl.AclStop.TheVariants as stop
@@ -77,16 +80,16 @@ clean_kind (Group id) = refl
 clean_kind Mask = refl
 clean_kind Other = refl
 
-clean_scope : (d : Bool) → IsClean (scope_text d)
-clean_scope true = refl
-clean_scope false = refl
+clean_scope : (d : Scope) → IsClean (scope_text d)
+clean_scope Default = refl
+clean_scope Access = refl
 
-pub clean_entry : (t : List ℕ) (e : Bool × Who × ℕ) → SpellsEntry t e → IsClean t
+pub clean_entry : (t : List ℕ) (e : Scope × Who × ℕ) → SpellsEntry t e → IsClean t
 clean_entry t e h =
     subst IsClean (sym h.2) (clean-append (scope_text e.0) _ (clean_scope e.0)
     (clean-append (who_text e.1) (58 ∷ perm_text e.2) (clean_who e.1 h.0) (below_8 (λ p. IsClean (58 ∷ perm_text p)) refl refl refl refl refl refl refl refl e.2 h.1)))
 
-pub clean_item : (t : List ℕ) (e : Bool × Who) → SpellsItem t e → IsClean t
+pub clean_item : (t : List ℕ) (e : Scope × Who) → SpellsItem t e → IsClean t
 clean_item t e h =
     elim h.1 as (λ _. IsClean t) [
       | inl is ↦ subst IsClean (sym is) (clean-append (scope_text e.0) (who_text e.1) (clean_scope e.0) (clean_who e.1 h.0))
@@ -104,20 +107,20 @@ begun t a r e = ap (λ t. length t == 0) e ∙ not_zero (length r)
     not_zero : (n : ℕ) → (suc n == 0) ≡ false
     not_zero n = grind (arith, nat_tests)
 
-kind_bytes : (d : Bool) (w : Who) (more : List ℕ) → HasBytes (scope_text d ++ (kind_text w ++ more))
-kind_bytes true w more = begun (scope_text true ++ (kind_text w ++ more)) _ _ refl
-kind_bytes false Owner more = begun (kind_text Owner ++ more) _ _ refl
-kind_bytes false (User id) more = begun (kind_text (User id) ++ more) _ _ refl
-kind_bytes false OwningGroup more = begun (kind_text OwningGroup ++ more) _ _ refl
-kind_bytes false (Group id) more = begun (kind_text (Group id) ++ more) _ _ refl
-kind_bytes false Mask more = begun (kind_text Mask ++ more) _ _ refl
-kind_bytes false Other more = begun (kind_text Other ++ more) _ _ refl
+kind_bytes : (d : Scope) (w : Who) (more : List ℕ) → HasBytes (scope_text d ++ (kind_text w ++ more))
+kind_bytes Default w more = begun (scope_text Default ++ (kind_text w ++ more)) _ _ refl
+kind_bytes Access Owner more = begun (kind_text Owner ++ more) _ _ refl
+kind_bytes Access (User id) more = begun (kind_text (User id) ++ more) _ _ refl
+kind_bytes Access OwningGroup more = begun (kind_text OwningGroup ++ more) _ _ refl
+kind_bytes Access (Group id) more = begun (kind_text (Group id) ++ more) _ _ refl
+kind_bytes Access Mask more = begun (kind_text Mask ++ more) _ _ refl
+kind_bytes Access Other more = begun (kind_text Other ++ more) _ _ refl
 
-pub bytes_entry : (t : List ℕ) (e : Bool × Who × ℕ) → SpellsEntry t e → HasBytes t
+pub bytes_entry : (t : List ℕ) (e : Scope × Who × ℕ) → SpellsEntry t e → HasBytes t
 bytes_entry t e h =
     subst HasBytes (sym (h.2 ∙ ap (λ x. scope_text e.0 ++ x) (append_assoc (kind_text e.1) (58 ∷ id_in e.1) (58 ∷ perm_text e.2)))) (kind_bytes e.0 e.1 ((58 ∷ id_in e.1) ++ 58 ∷ perm_text e.2))
 
-pub bytes_item : (t : List ℕ) (e : Bool × Who) → SpellsItem t e → HasBytes t
+pub bytes_item : (t : List ℕ) (e : Scope × Who) → SpellsItem t e → HasBytes t
 bytes_item t e h =
     elim h.1 as (λ _. HasBytes t) [
       | inl is ↦ subst HasBytes (sym is) (kind_bytes e.0 e.1 (58 ∷ id_in e.1))
@@ -318,28 +321,109 @@ module _ {X : Type 0} (read : List ℕ → Option X) (Spells : List ℕ → X �
     (clean : (t : List ℕ) (x : X) → Spells t x → IsClean t)
     (bytes : (t : List ℕ) (x : X) → Spells t x → HasBytes t)
     (same : X → X → Bool) where
-  pub listed_fault : (text : List ℕ) (f : AclFault) → list_of read same text ≡ Err f → IsListFault Spells same text f
+  faulty : (items : List (List ℕ)) (f : AclFault) → cond (nat_lt 64 (length items)) (Err TooMany) (unrepeated same (values_of read items)) ≡ Err f → IsFaultOf Spells same items f
   unfolding values_of
-  listed_fault text f =
-      let items = items_of text in
-      elim (length text == 0) as (λ b. cond b (Ok []) (cond (nat_lt 64 (length items)) (Err TooMany) (unrepeated same (values_of read items))) ≡ Err f → IsListFault Spells same text f) [
-        | true ↦ λ e. (cc)
-        | false ↦ elim (nat_lt 64 (length items)) as (λ b. nat_lt 64 (length items) ≡ b → cond b (Err TooMany) (unrepeated same (values_of read items)) ≡ Err f → IsListFault Spells same text f) [
-          | true ↦ λ over e. let is : TooMany ≡ f = (cc) in subst (IsListFault Spells same text) is (ltb-true 64 (length items) over)
-          | false ↦ λ within. elim (position_from (λ t. is_none (read t)) 0 items) as (λ o. position_from (λ t. is_none (read t)) 0 items ≡ o → unrepeated same (or_bad o (filter_map read items)) ≡ Err f → IsListFault Spells same text f) [
-            | Some i ↦ λ bad e.
-                let is : BadEntry i ≡ f = (cc) in
-                subst (IsListFault Spells same text) is (few_from (length items) within, first_unread read Spells sound complete same items i bad)
-            | None ↦ λ good. elim (repeat_from same [] (filter_map read items)) as (λ o. repeat_from same [] (filter_map read items) ≡ o → or_twice o (filter_map read items) ≡ Err f → IsListFault Spells same text f) [
-              | None ↦ λ _ e. (cc)
-              | Some i ↦ λ again e.
-                  let is : Twice i ≡ f = (cc) in
-                  subst (IsListFault Spells same text) is
-                  (few_from (length items) within, (filter_map read items, each read Spells sound complete clean bytes items 0 good, first_repeat same (filter_map read items) i again))
-            ] refl
+  faulty items f =
+      elim (nat_lt 64 (length items)) as (λ b. nat_lt 64 (length items) ≡ b → cond b (Err TooMany) (unrepeated same (values_of read items)) ≡ Err f → IsFaultOf Spells same items f) [
+        | true ↦ λ over e. let is : TooMany ≡ f = (cc) in subst (IsFaultOf Spells same items) is (ltb-true 64 (length items) over)
+        | false ↦ λ within. elim (position_from (λ t. is_none (read t)) 0 items) as (λ o. position_from (λ t. is_none (read t)) 0 items ≡ o → unrepeated same (or_bad o (filter_map read items)) ≡ Err f → IsFaultOf Spells same items f) [
+          | Some i ↦ λ bad e.
+              let is : BadEntry i ≡ f = (cc) in
+              subst (IsFaultOf Spells same items) is (few_from (length items) within, first_unread read Spells sound complete same items i bad)
+          | None ↦ λ good. elim (repeat_from same [] (filter_map read items)) as (λ o. repeat_from same [] (filter_map read items) ≡ o → or_twice o (filter_map read items) ≡ Err f → IsFaultOf Spells same items f) [
+            | None ↦ λ _ e. (cc)
+            | Some i ↦ λ again e.
+                let is : Twice i ≡ f = (cc) in
+                subst (IsFaultOf Spells same items) is
+                (few_from (length items) within, (filter_map read items, each read Spells sound complete clean bytes items 0 good, first_repeat same (filter_map read items) i again))
           ] refl
         ] refl
+      ] refl
+
+  pub listed_fault : (text : List ℕ) (f : AclFault) → list_of read same text ≡ Err f → IsListFault Spells same text f
+  listed_fault [] f e = (cc)
+  listed_fault (x ∷ xs) f e =
+      faulty (items_of (x ∷ xs)) f (sym (ap (λ b. cond b (Ok []) (cond (nat_lt 64 (length (items_of (x ∷ xs)))) (Err TooMany) (unrepeated same (values_of read (items_of (x ∷ xs)))))) (begun (x ∷ xs) x xs refl)) ∙ e)
+
+  unread_none : (item : List ℕ) → ¬ ((x : X) × Spells item x) → read item ≡ None
+  unread_none item h =
+      elim (read item) as (λ o. read item ≡ o → o ≡ None) [
+        | None ↦ λ _. refl
+        | Some x ↦ λ is. absurd (h (x, sound item x is))
+      ] refl
+
+  bad_at : (front : List (List ℕ)) (item : List ℕ) (back : List (List ℕ)) (n : ℕ) → AllByRecursion (λ t. (x : X) × Spells t x) front → read item ≡ None
+      → position_from (λ t. is_none (read t)) n (front ++ item ∷ back) ≡ Some (n + length front)
+  bad_at [] item back n h none =
+      ap (λ o. cond (is_none o) (Some n) (position_from (λ t. is_none (read t)) (n + 1) back)) none ∙ ap Some (omega arith)
+  bad_at (t ∷ ts) item back n h none =
+      ap (λ o. cond (is_none o) (Some n) (position_from (λ t. is_none (read t)) (n + 1) (ts ++ item ∷ back))) (complete t h.0.0 h.0.1)
+      ∙ bad_at ts item back (n + 1) h.1 none ∙ ap Some (omega arith)
+
+  repeated_at : (seen front : List X) (x : X) (back : List X) → repeat_from same seen front ≡ None → list_any (same x) (seen ++ front) ≡ true
+      → repeat_from same seen (front ++ x ∷ back) ≡ Some (length (seen ++ front))
+  repeated_at seen [] x back = λ once again.
+      ap (λ b. cond b (Some (length seen)) (repeat_from same (seen ++ x ∷ []) back)) (ap (list_any (same x)) (sym (append-nil seen)) ∙ again)
+      ∙ ap (λ l. Some (length l)) (sym (append-nil seen))
+  repeated_at seen (y ∷ ys) x back =
+      elim (list_any (same y) seen) as (λ b. cond b (Some (length seen)) (repeat_from same (seen ++ y ∷ []) ys) ≡ None → list_any (same x) (seen ++ (y ∷ ys)) ≡ true
+      → cond b (Some (length seen)) (repeat_from same (seen ++ y ∷ []) (ys ++ x ∷ back)) ≡ Some (length (seen ++ (y ∷ ys)))) [
+        | true ↦ λ once again. (cc)
+        | false ↦ λ once again.
+            let moved : (seen ++ y ∷ []) ++ ys ≡ seen ++ (y ∷ ys) = append_assoc seen (y ∷ []) ys in
+            repeated_at (seen ++ y ∷ []) ys x back once (ap (list_any (same x)) moved ∙ again) ∙ ap (λ l. Some (length l)) moved
       ]
+
+  -- what is no list is refused so
+  refused_items : (items : List (List ℕ)) (f : AclFault) → IsFaultOf Spells same items f
+      → cond (nat_lt 64 (length items)) (Err TooMany) (unrepeated same (values_of read items)) ≡ Err f
+  unfolding values_of
+  refused_items items TooMany h = ap (λ b. cond b (Err TooMany) (unrepeated same (values_of read items))) (over (length items) h)
+    where
+      over : (n : ℕ) → 64 < n → nat_lt 64 n ≡ true
+      over n h = grind (arith, nat_tests)
+  refused_items items (BadEntry i) h =
+      let first = h.1 in
+      let place = first.place in
+      let at : 0 + length first.front ≡ i = omega (arith, place) in
+      ap (λ b. cond b (Err TooMany) (unrepeated same (values_of read items))) (few_enough (length items) h.0)
+      ∙ ap (λ o. unrepeated same (or_bad o (filter_map read items)))
+      (ap (position_from (λ t. is_none (read t)) 0) first.parts ∙ bad_at first.front first.item first.back 0 first.read (unread_none first.item first.unread) ∙ ap Some at)
+  refused_items items (Twice i) h =
+      let first = h.1.2 in
+      ap (λ b. cond b (Err TooMany) (unrepeated same (values_of read items))) (few_enough (length items) h.0)
+      ∙ ap (unrepeated same) (values read Spells sound complete clean bytes items h.1.0 h.1.1)
+      ∙ ap (λ o. or_twice o h.1.0)
+      (ap (repeat_from same []) first.parts ∙ repeated_at [] first.front first.value first.back first.once first.again ∙ ap Some first.place)
+  refused_items items (Missing who) h = absurd h
+  refused_items items BadOctal h = absurd h
+  refused_items items BadSymbolic h = absurd h
+
+  none_refused : (f : AclFault) → IsFaultOf Spells same [] f → ⊥
+  none_refused TooMany h = omega (arith, h)
+  none_refused (BadEntry i) h = not_nil h.1.front h.1.item h.1.back h.1.parts
+    where
+      not_nil : (front : List (List ℕ)) (x : List ℕ) (back : List (List ℕ)) → [] ≡ front ++ x ∷ back → ⊥
+      not_nil [] x back e = (cc)
+      not_nil (y ∷ ys) x back e = (cc)
+  none_refused (Twice i) h = nothing h.1.0 h.1.1 h.1.2
+    where
+      nothing : (xs : List X) → EachSpells Spells [] xs → IsFirstRepeat same xs i → ⊥
+      nothing [] each first = not_nil first.front first.value first.back first.parts
+        where
+          not_nil : (front : List X) (x : X) (back : List X) → [] ≡ front ++ x ∷ back → ⊥
+          not_nil [] x back e = (cc)
+          not_nil (y ∷ ys) x back e = (cc)
+      nothing (x ∷ xs) each first = each
+  none_refused (Missing who) h = h
+  none_refused BadOctal h = h
+  none_refused BadSymbolic h = h
+
+  pub listed_refused : (text : List ℕ) (f : AclFault) → IsListFault Spells same text f → list_of read same text ≡ Err f
+  listed_refused [] f h = absurd (none_refused f h)
+  listed_refused (x ∷ xs) f h =
+      ap (λ b. cond b (Ok []) (cond (nat_lt 64 (length (items_of (x ∷ xs)))) (Err TooMany) (unrepeated same (values_of read (items_of (x ∷ xs)))))) (begun (x ∷ xs) x xs refl)
+      ∙ refused_items (items_of (x ∷ xs)) f h
 
 -- ---- answers
 
@@ -352,29 +436,29 @@ answers_along r answer other h e = subst (Answers r) e h
 
 -- ---- the two grammars
 
-pub acl_text_only : (text : List ℕ) (es : List (Bool × Who × ℕ)) → IsAclText text es → acl_list_of text ≡ Ok es
+pub acl_text_only : (text : List ℕ) (es : List (Scope × Who × ℕ)) → IsAclText text es → acl_list_of text ≡ Ok es
 acl_text_only = only_read entry_of SpellsEntry entry_is entry_complete clean_entry bytes_entry same_entry
   where
-    entry_complete : (t : List ℕ) (e : Bool × Who × ℕ) → SpellsEntry t e → entry_of t ≡ Some e
+    entry_complete : (t : List ℕ) (e : Scope × Who × ℕ) → SpellsEntry t e → entry_of t ≡ Some e
     entry_complete t e h = ap entry_of h.2 ∙ entry_of-text e h.0 h.1
 
-pub acl_text_is : (text : List ℕ) (es : List (Bool × Who × ℕ)) → acl_list_of text ≡ Ok es → IsAclText text es
+pub acl_text_is : (text : List ℕ) (es : List (Scope × Who × ℕ)) → acl_list_of text ≡ Ok es → IsAclText text es
 acl_text_is = is_read entry_of SpellsEntry entry_is entry_complete clean_entry bytes_entry same_entry
   where
-    entry_complete : (t : List ℕ) (e : Bool × Who × ℕ) → SpellsEntry t e → entry_of t ≡ Some e
+    entry_complete : (t : List ℕ) (e : Scope × Who × ℕ) → SpellsEntry t e → entry_of t ≡ Some e
     entry_complete t e h = ap entry_of h.2 ∙ entry_of-text e h.0 h.1
 
-item_complete : (t : List ℕ) (e : Bool × Who) → SpellsItem t e → item_of t ≡ Some e
+item_complete : (t : List ℕ) (e : Scope × Who) → SpellsItem t e → item_of t ≡ Some e
 item_complete t e h =
     elim h.1 as (λ _. item_of t ≡ Some e) [
       | inl is ↦ ap item_of is ∙ item_of-text e h.0
       | inr is ↦ ap item_of is.1 ∙ item_of-kind e h.0 is.0
     ]
 
-pub remove_text_only : (text : List ℕ) (es : List (Bool × Who)) → IsRemoveText text es → remove_list_of text ≡ Ok es
+pub remove_text_only : (text : List ℕ) (es : List (Scope × Who)) → IsRemoveText text es → remove_list_of text ≡ Ok es
 remove_text_only = only_read item_of SpellsItem item_is item_complete clean_item bytes_item same_item
 
-pub remove_text_is : (text : List ℕ) (es : List (Bool × Who)) → remove_list_of text ≡ Ok es → IsRemoveText text es
+pub remove_text_is : (text : List ℕ) (es : List (Scope × Who)) → remove_list_of text ≡ Ok es → IsRemoveText text es
 remove_text_is = is_read item_of SpellsItem item_is item_complete clean_item bytes_item same_item
 
 pub fault_is : (T : Type 0) (r : Result T AclStop) (answer : Result T AclFault) (P : AclFault → Type 0) → Answers r answer
@@ -384,8 +468,36 @@ fault_is T r answer P h g f e = g f (let Q : Result T AclStop → Type 0 = λ r.
 pub acl_text_fault : (text : List ℕ) (f : AclFault) → acl_list_of text ≡ Err f → IsListFault SpellsEntry same_entry text f
 acl_text_fault = listed_fault entry_of SpellsEntry entry_is entry_complete clean_entry bytes_entry same_entry
   where
-    entry_complete : (t : List ℕ) (e : Bool × Who × ℕ) → SpellsEntry t e → entry_of t ≡ Some e
+    entry_complete : (t : List ℕ) (e : Scope × Who × ℕ) → SpellsEntry t e → entry_of t ≡ Some e
     entry_complete t e h = ap entry_of h.2 ∙ entry_of-text e h.0 h.1
+
+pub acl_text_refused : (text : List ℕ) (f : AclFault) → IsListFault SpellsEntry same_entry text f → acl_list_of text ≡ Err f
+acl_text_refused = listed_refused entry_of SpellsEntry entry_is entry_complete clean_entry bytes_entry same_entry
+  where
+    entry_complete : (t : List ℕ) (e : Scope × Who × ℕ) → SpellsEntry t e → entry_of t ≡ Some e
+    entry_complete t e h = ap entry_of h.2 ∙ entry_of-text e h.0 h.1
+
+pub remove_text_refused : (text : List ℕ) (f : AclFault) → IsListFault SpellsItem same_item text f → remove_list_of text ≡ Err f
+remove_text_refused = listed_refused item_of SpellsItem item_is item_complete clean_item bytes_item same_item
 
 pub remove_text_fault : (text : List ℕ) (f : AclFault) → remove_list_of text ≡ Err f → IsListFault SpellsItem same_item text f
 remove_text_fault = listed_fault item_of SpellsItem item_is item_complete clean_item bytes_item same_item
+
+-- what is read has ids that are ones, and permissions of three bits
+each_writable : (ts : List (List ℕ)) (es : List (Scope × Who × ℕ)) → EachSpells SpellsEntry ts es → AreWritable es
+each_writable [] [] h = tt
+each_writable [] (e ∷ es) h = absurd h
+each_writable (t ∷ ts) [] h = absurd h
+each_writable (t ∷ ts) (e ∷ es) h = ((h.0.0, h.0.1), each_writable ts es h.1)
+
+pub acl_text_writable : (text : List ℕ) (es : List (Scope × Who × ℕ)) → acl_list_of text ≡ Ok es → AreWritable es
+acl_text_writable text es e = let spelled = (acl_text_is text es e).spelled in each_writable spelled.0 es spelled.2
+
+each_whose : (ts : List (List ℕ)) (es : List (Scope × Who)) → EachSpells SpellsItem ts es → AreWhose es
+each_whose [] [] h = tt
+each_whose [] (e ∷ es) h = absurd h
+each_whose (t ∷ ts) [] h = absurd h
+each_whose (t ∷ ts) (e ∷ es) h = (h.0.0, each_whose ts es h.1)
+
+pub remove_text_whose : (text : List ℕ) (es : List (Scope × Who)) → remove_list_of text ≡ Ok es → AreWhose es
+remove_text_whose text es e = let spelled = (remove_text_is text es e).spelled in each_whose spelled.0 es spelled.2

@@ -1,36 +1,34 @@
 -- What setting, changing and removing entries, and setting a mode, make of an access ACL and a default ACL.
-use Rattle.std.specs.Prelude.{ℕ, Bool, true, false, not, ◌&&◌, ◌||◌, fold, nat_lt, length, List, Option, Some, None, option_map, is_some, Result, Ok, Err, if◌then◌else◌}
+use Rattle.std.specs.Prelude.{ℕ, Bool, true, false, not, ◌&&◌, ◌||◌, fold, nat_lt, length, List, [], ◌∷◌, Option, Some, None, option_map, is_some, Result, Ok, Err, if◌then◌else◌}
 use Rattle.std.specs.Option.{option_map_or}
 use Rattle.std.specs.Ordering.{eq_by_cmp}
 use Rattle.std.specs.List.{list_any}
 use Rattle.std.specs.FinMap as fin
+use Rattle.acl_text.specs.declared.scope.Scope.{Scope}
+use Rattle.acl_text.specs.declared.scope.Scope.TheVariants.{Access, Default}
 use Rattle.acl_text.specs.declared.who.Who.{Who}
 use Rattle.acl_text.specs.declared.who.Who.TheVariants.{Owner, OwningGroup, Mask, Other}
 use Rattle.acl_text.specs.declared.perm.ModeBits.{ModeBits}
 use Rattle.acl_text.specs.declared.acl.AclPair.{AclPair}
 use Rattle.acl_text.specs.declared.acl.AclFault.{AclFault}
 use Rattle.acl_text.specs.declared.acl.AclFault.TheVariants.{Missing, TooMany}
+use Rattle.acl_text.specs.Scopes.{in_scope}
 use Rattle.acl_text.specs.Whos.{who_cmp, is_base, is_mask}
 use Rattle.acl_text.specs.AclMaps.{AclMap, map_of, masked, base_of}
 
--- a scope flag is that of the default scope (true) or of the access scope (false)
-abbrev pub in_scope : Bool → Bool → Bool
-in_scope true scope = scope
-in_scope false scope = not scope
-
 -- whether a list of entries has one in a scope, and whether it has the mask there
-abbrev pub names : Bool → List (Bool × Who × ℕ) → Bool
+abbrev pub names : Scope → List (Scope × Who × ℕ) → Bool
 names default list = list_any (λ e. in_scope default e.0) list
 
-abbrev pub gives_mask : Bool → List (Bool × Who × ℕ) → Bool
+abbrev pub gives_mask : Scope → List (Scope × Who × ℕ) → Bool
 gives_mask default list = list_any (λ e. in_scope default e.0 && is_mask e.1) list
 
 -- each entry of a scope in turn replaces the one of its who, or is added
-abbrev pub given_in : Bool → List (Bool × Who × ℕ) → AclMap → AclMap
+abbrev pub given_in : Scope → List (Scope × Who × ℕ) → AclMap → AclMap
 given_in default list m = fold (λ m e. if in_scope default e.0 then fin.insert m e.1 e.2 else m) m list
 
 -- a scope after a change: as it was where the list doesn't name it
-abbrev pub changed_scope : Bool → List (Bool × Who × ℕ) → AclMap → AclMap
+abbrev pub changed_scope : Scope → List (Scope × Who × ℕ) → AclMap → AclMap
 changed_scope default list m = if names default list then masked (gives_mask default list) (given_in default list m) else m
 
 -- what a default ACL starts from: itself, or the three base entries of the access ACL
@@ -38,9 +36,9 @@ abbrev pub default_start : Option AclMap → AclMap → AclMap
 default_start (Some m) access = m
 default_start None access = base_of access
 
-abbrev pub changed_default : List (Bool × Who × ℕ) → Option AclMap → AclMap → Option AclMap
+abbrev pub changed_default : List (Scope × Who × ℕ) → Option AclMap → AclMap → Option AclMap
 changed_default list default access =
-    if names true list then Some (changed_scope true list (default_start default access)) else default
+    if names Default list then Some (changed_scope Default list (default_start default access)) else default
 
 -- over 32 entries
 abbrev pub is_over : AclMap → Bool
@@ -53,9 +51,9 @@ pair_of access default =
     else Ok (record { access = fin.entries access; default = option_map fin.entries default })
 
 -- modify: replaces or adds
-abbrev pub acl_modify : AclPair → List (Bool × Who × ℕ) → Result AclPair AclFault
+abbrev pub acl_modify : AclPair → List (Scope × Who × ℕ) → Result AclPair AclFault
 acl_modify pair list =
-    let access = changed_scope false list (map_of pair.access) in
+    let access = changed_scope Access list (map_of pair.access) in
     pair_of access (changed_default list (option_map map_of pair.default) access)
 
 -- the first of the three base entries that is missing
@@ -65,41 +63,41 @@ missing_in m =
     then (if is_some (fin.get m OwningGroup) then (if is_some (fin.get m Other) then None else Some Other) else Some OwningGroup)
     else Some Owner
 
-abbrev pub set_where_complete : Option Who → List (Bool × Who × ℕ) → Result AclPair AclFault
+abbrev pub set_where_complete : Option Who → List (Scope × Who × ℕ) → Result AclPair AclFault
 set_where_complete (Some who) list = Err (Missing who)
 set_where_complete None list =
-    let access = masked (gives_mask false list) (given_in false list fin.empty) in
+    let access = masked (gives_mask Access list) (given_in Access list fin.empty) in
     pair_of access (changed_default list None access)
 
 -- set: the entries of the list alone, which must have the three base entries in the access scope
-abbrev pub acl_set : List (Bool × Who × ℕ) → Result AclPair AclFault
-acl_set list = set_where_complete (missing_in (given_in false list fin.empty)) list
+abbrev pub acl_set : List (Scope × Who × ℕ) → Result AclPair AclFault
+acl_set list = set_where_complete (missing_in (given_in Access list fin.empty)) list
 
 -- whether a list of items to remove has one in a scope, and whether it has one for someone there
-abbrev pub names_item : Bool → List (Bool × Who) → Bool
+abbrev pub names_item : Scope → List (Scope × Who) → Bool
 names_item default list = list_any (λ e. in_scope default e.0) list
 
-abbrev pub lists : Bool → List (Bool × Who) → Who → Bool
+abbrev pub lists : Scope → List (Scope × Who) → Who → Bool
 lists default list who = list_any (λ e. in_scope default e.0 && eq_by_cmp who_cmp e.1 who) list
 
 -- the base entries, and what isn't listed
-abbrev pub without : Bool → List (Bool × Who) → AclMap → AclMap
+abbrev pub without : Scope → List (Scope × Who) → AclMap → AclMap
 without default list m = fin.retain_keys m (λ who. is_base who || not (lists default list who))
 
-abbrev pub removed_scope : Bool → List (Bool × Who) → AclMap → AclMap
+abbrev pub removed_scope : Scope → List (Scope × Who) → AclMap → AclMap
 removed_scope default list m = if names_item default list then masked false (without default list m) else m
 
 -- a list with all three base entries of the default scope drops the default ACL
-abbrev pub drops_default : List (Bool × Who) → Bool
-drops_default list = lists true list Owner && lists true list OwningGroup && lists true list Other
+abbrev pub drops_default : List (Scope × Who) → Bool
+drops_default list = lists Default list Owner && lists Default list OwningGroup && lists Default list Other
 
-abbrev pub removed_default : List (Bool × Who) → Option AclMap → Option AclMap
-removed_default list default = if drops_default list then None else option_map (removed_scope true list) default
+abbrev pub removed_default : List (Scope × Who) → Option AclMap → Option AclMap
+removed_default list default = if drops_default list then None else option_map (removed_scope Default list) default
 
 -- remove
-abbrev pub acl_remove : AclPair → List (Bool × Who) → Result AclPair AclFault
+abbrev pub acl_remove : AclPair → List (Scope × Who) → Result AclPair AclFault
 acl_remove pair list =
-    pair_of (removed_scope false list (map_of pair.access)) (removed_default list (option_map map_of pair.default))
+    pair_of (removed_scope Access list (map_of pair.access)) (removed_default list (option_map map_of pair.default))
 
 -- whose entry the group bits of a mode are: the mask where there is one, else the owning group
 abbrev pub group_holder : AclMap → Who
@@ -107,6 +105,17 @@ group_holder m = if is_some (fin.get m Mask) then Mask else OwningGroup
 
 abbrev pub mode_set : ModeBits → AclMap → AclMap
 mode_set bits m = fin.insert (fin.insert (fin.insert m Owner bits.owner) (group_holder m) bits.group) Other bits.other
+
+-- the pair that a mode alone gives: the three base entries, and no default ACL
+abbrev pub pair_of_mode : ModeBits → AclPair
+pair_of_mode bits = record {
+  access = (Owner, bits.owner) ∷ (OwningGroup, bits.group) ∷ (Other, bits.other) ∷ [];
+  default = None;
+}
+
+-- the same as a map
+abbrev pub mode_map : ModeBits → AclMap
+mode_map bits = fin.insert (fin.insert (fin.insert fin.empty Owner bits.owner) OwningGroup bits.group) Other bits.other
 
 -- with_mode
 abbrev pub acl_with_mode : AclPair → ModeBits → AclPair

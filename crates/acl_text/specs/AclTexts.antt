@@ -3,13 +3,15 @@
 use Rattle.std.specs.Prelude.{◌≡◌, ◌⊎◌, ℕ, ◌+◌, ◌-◌, ◌<◌, ◌≤◌, Bool, true, false, ◌==◌, ◌&&◌, IsTrue, bytes_eq, nat_lt, List, [], ◌∷◌, ◌++◌, length, take, drop, codes, slice_index, Option, Some, None, is_none, Result, Ok, Err, if◌then◌else◌}
 use Rattle.std.specs.List.{filter_map, list_any, position_from, join_with_byte, slice_split, AllByRecursion}
 use Rattle.std.specs.Ordering.{eq_by_cmp}
+use Rattle.acl_text.specs.declared.scope.Scope.{Scope}
+use Rattle.acl_text.specs.declared.scope.Scope.TheVariants.{Access, Default}
 use Rattle.acl_text.specs.declared.who.Who.{Who}
 use Rattle.acl_text.specs.declared.who.Who.TheVariants.{Owner, User, OwningGroup, Group, Mask, Other}
 use Rattle.acl_text.specs.declared.acl.AclFault.{AclFault}
 use Rattle.acl_text.specs.declared.acl.AclFault.TheVariants.{BadEntry, Twice, Missing, TooMany, BadOctal, BadSymbolic}
-use Rattle.acl_text.specs.Ids.{is_id, id_of}
-use Rattle.acl_text.specs.Whos.{who_cmp, id_in}
-use Rattle.acl_text.specs.AclChanges.{in_scope}
+use Rattle.acl_text.specs.Ids.{id_of}
+use Rattle.acl_text.specs.Whos.{who_cmp, id_in, is_whose}
+use Rattle.acl_text.specs.Scopes.{in_scope}
 use Rattle.acl_text.specs.PermTexts.{◌>>=◌, perm_text, perm_at}
 
 -- ---- what is printed
@@ -26,30 +28,21 @@ kind_text Other = codes "other"
 abbrev pub who_text : Who → List ℕ
 who_text who = kind_text who ++ 58 ∷ id_in who
 
-abbrev pub scope_text : Bool → List ℕ
-scope_text true = codes "default:"
-scope_text false = []
+abbrev pub scope_text : Scope → List ℕ
+scope_text Default = codes "default:"
+scope_text Access = []
 
 -- `[default:]type:id:perms`
-abbrev pub entry_text : Bool × Who × ℕ → List ℕ
+abbrev pub entry_text : Scope × Who × ℕ → List ℕ
 entry_text e = scope_text e.0 ++ (who_text e.1 ++ 58 ∷ perm_text e.2)
 
 -- ---- the grammar
 
--- the id of a named user or group is one
-abbrev pub is_whose : Who → Bool
-is_whose Owner = true
-is_whose (User id) = is_id id
-is_whose OwningGroup = true
-is_whose (Group id) = is_id id
-is_whose Mask = true
-is_whose Other = true
-
-abbrev pub SpellsEntry : List ℕ → Bool × Who × ℕ → Type 0
+abbrev pub SpellsEntry : List ℕ → Scope × Who × ℕ → Type 0
 SpellsEntry text e = IsTrue (is_whose e.1) × (e.2 < 8) × (text ≡ entry_text e)
 
 -- `[default:]type:id`, where the `:` may be left out before an empty id
-abbrev pub SpellsItem : List ℕ → Bool × Who → Type 0
+abbrev pub SpellsItem : List ℕ → Scope × Who → Type 0
 SpellsItem text e =
     IsTrue (is_whose e.1)
     × ((text ≡ scope_text e.0 ++ who_text e.1) ⊎ ((id_in e.1 ≡ []) × (text ≡ scope_text e.0 ++ kind_text e.1)))
@@ -71,8 +64,8 @@ abbrev pub has_front : List ℕ → List ℕ → Bool
 has_front front text = bytes_eq (take (length front) text) front
 
 -- the scope, and the text behind it
-abbrev pub scope_of : List ℕ → Bool × List ℕ
-scope_of text = if has_front (codes "default:") text then (true, drop 8 text) else (false, text)
+abbrev pub scope_of : List ℕ → Scope × List ℕ
+scope_of text = if has_front (codes "default:") text then (Default, drop 8 text) else (Access, text)
 
 -- one of a kind that may have an id
 abbrev pub person_of : Who → (List ℕ → Who) → List ℕ → Option Who
@@ -98,14 +91,14 @@ who_and_perm_of text =
     then (perm_at text (length text - 4 + 1) >>= λ perm. (who_of (take (length text - 4) text) >>= λ who. Some (who, perm)))
     else None)
 
-unfoldable pub entry_of : List ℕ → Option (Bool × Who × ℕ)
+unfoldable pub entry_of : List ℕ → Option (Scope × Who × ℕ)
 entry_of text = who_and_perm_of (scope_of text).1 >>= λ e. Some ((scope_of text).0, e.0, e.1)
 
 abbrev pub or_bare : Option Who → List ℕ → Option Who
 or_bare (Some who) text = Some who
 or_bare None text = bare_of text
 
-unfoldable pub item_of : List ℕ → Option (Bool × Who)
+unfoldable pub item_of : List ℕ → Option (Scope × Who)
 item_of text = or_bare (who_of (scope_of text).1) (scope_of text).1 >>= λ who. Some ((scope_of text).0, who)
 
 -- the items of a text, which commas part
@@ -139,17 +132,20 @@ list_of read same text =
     if length text == 0 then Ok []
     else (if nat_lt 64 (length (items_of text)) then Err TooMany else unrepeated same (values_of read (items_of text)))
 
--- two entries, and two items, for the same one in the same scope
-abbrev pub same_entry : Bool × Who × ℕ → Bool × Who × ℕ → Bool
+-- two that are for the same one in the same scope: entries, and items to remove
+abbrev pub same_of : {X : Type 0} → (X → Scope) → (X → Who) → X → X → Bool
+same_of scope_of whom a b = in_scope (scope_of a) (scope_of b) && eq_by_cmp who_cmp (whom a) (whom b)
+
+abbrev pub same_entry : Scope × Who × ℕ → Scope × Who × ℕ → Bool
 same_entry a b = in_scope a.0 b.0 && eq_by_cmp who_cmp a.1 b.1
 
-abbrev pub same_item : Bool × Who → Bool × Who → Bool
+abbrev pub same_item : Scope × Who → Scope × Who → Bool
 same_item a b = in_scope a.0 b.0 && eq_by_cmp who_cmp a.1 b.1
 
-abbrev pub acl_list_of : List ℕ → Result (List (Bool × Who × ℕ)) AclFault
+abbrev pub acl_list_of : List ℕ → Result (List (Scope × Who × ℕ)) AclFault
 acl_list_of text = list_of entry_of same_entry text
 
-abbrev pub remove_list_of : List ℕ → Result (List (Bool × Who)) AclFault
+abbrev pub remove_list_of : List ℕ → Result (List (Scope × Who)) AclFault
 remove_list_of text = list_of item_of same_item text
 
 -- no value is the same as one before it
@@ -163,10 +159,10 @@ pub record IsListText {X : Type 0} (Spells : List ℕ → X → Type 0) (same : 
   pub once : NoneRepeats same xs
 
 -- a text of entries, and one of items to remove
-abbrev pub IsAclText : List ℕ → List (Bool × Who × ℕ) → Type 0
+abbrev pub IsAclText : List ℕ → List (Scope × Who × ℕ) → Type 0
 IsAclText text es = IsListText SpellsEntry same_entry text es
 
-abbrev pub IsRemoveText : List ℕ → List (Bool × Who) → Type 0
+abbrev pub IsRemoveText : List ℕ → List (Scope × Who) → Type 0
 IsRemoveText text es = IsListText SpellsItem same_item text es
 
 -- ---- what is refused
@@ -191,13 +187,20 @@ pub record IsFirstRepeat {X : Type 0} (same : X → X → Bool) (xs : List X) (i
   pub once : NoneRepeats same front
   pub again : IsTrue (list_any (same value) front)
 
--- when each fault of a text comes: over 64 items; else the first item that spells nothing; else, where all items spell
--- values, the first value that is the same as one before it
+-- the items of a text: none of the empty one, and else those that commas part
+abbrev pub listed : List ℕ → List (List ℕ)
+listed [] = []
+listed (b ∷ bs) = items_of (b ∷ bs)
+
+-- when each fault of items comes: where they are over 64; else at the first item that spells nothing; else, where all items
+-- spell values, at the first value that is the same as one before it
+abbrev pub IsFaultOf : {X : Type 0} → (List ℕ → X → Type 0) → (X → X → Bool) → List (List ℕ) → AclFault → Type 0
+IsFaultOf Spells same items TooMany = 64 < length items
+IsFaultOf Spells same items (BadEntry i) = (length items ≤ 64) × IsFirstUnread Spells items i
+IsFaultOf {X} Spells same items (Twice i) = (length items ≤ 64) × ((xs : List X) × EachSpells Spells items xs × IsFirstRepeat same xs i)
+IsFaultOf Spells same items (Missing who) = ⊥
+IsFaultOf Spells same items BadOctal = ⊥
+IsFaultOf Spells same items BadSymbolic = ⊥
+
 abbrev pub IsListFault : {X : Type 0} → (List ℕ → X → Type 0) → (X → X → Bool) → List ℕ → AclFault → Type 0
-IsListFault Spells same text TooMany = 64 < length (items_of text)
-IsListFault Spells same text (BadEntry i) = (length (items_of text) ≤ 64) × IsFirstUnread Spells (items_of text) i
-IsListFault {X} Spells same text (Twice i) =
-    (length (items_of text) ≤ 64) × ((xs : List X) × EachSpells Spells (items_of text) xs × IsFirstRepeat same xs i)
-IsListFault Spells same text (Missing who) = ⊥
-IsListFault Spells same text BadOctal = ⊥
-IsListFault Spells same text BadSymbolic = ⊥
+IsListFault Spells same text f = IsFaultOf Spells same (listed text) f

@@ -6,6 +6,7 @@ use Rattle.std.specs.FinMap.{find, is_sorted}
 use Rattle.acl_text.specs.declared.who.Who.{Who}
 use Rattle.acl_text.specs.declared.who.Who.TheVariants.{Owner, OwningGroup, Mask, Other}
 use Rattle.acl_text.specs.Whos.{who_cmp, is_named}
+use Rattle.acl_text.specs.Held.{AreHeld}
 use Rattle.acl_text.specs.AclMaps.{AclMap, has_named}
 
 -- entries that are complete: the three base entries, and a mask where there is a named user or group
@@ -20,7 +21,7 @@ pub record IsAclMap (m : AclMap) : Type 0 where
   pub complete : IsComplete m
   pub few : length (fin.entries m) ≤ 32
 
--- the same of a list: in printed order with each at most once, complete, and at most 32
+-- the same of a list: in printed order with each at most once, complete, at most 32, and each with an id that is one and three bits
 pub record IsAcl (es : List (Who × ℕ)) : Type 0 where
   pub in_order : IsTrue (is_sorted who_cmp es)
   pub owner : IsSome (find who_cmp Owner es)
@@ -28,3 +29,4 @@ pub record IsAcl (es : List (Who × ℕ)) : Type 0 where
   pub other : IsSome (find who_cmp Other es)
   pub mask : IsTrue (list_any (λ e. is_named e.0) es) → IsSome (find who_cmp Mask es)
   pub few : length es ≤ 32
+  pub held : AreHeld es

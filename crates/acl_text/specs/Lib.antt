@@ -1,5 +1,7 @@
 pub mod Ids
+pub mod Scopes
 pub mod Whos
+pub mod Held
 pub mod AclMaps
 pub mod Places
 pub mod Acls
@@ -7,5 +9,6 @@ pub mod Stops
 pub mod AclChanges
 pub mod PermTexts
 pub mod AclTexts
+pub mod AclFaults
 pub mod AclWriting
 pub mod AclLaws

@@ -32,7 +32,11 @@ symbolic_text bits =
 abbrev pub octal_text : ModeBits → List ℕ
 octal_text bits = (if bits.sticky then 49 else 48) ∷ (48 + bits.owner) ∷ (48 + bits.group) ∷ (48 + bits.other) ∷ []
 
--- ---- the texts of a mode
+-- ---- the texts of permissions and of a mode
+
+-- three characters spell permissions
+abbrev pub SpellsPerm : List ℕ → ℕ → Type 0
+SpellsPerm text p = (p < 8) × (text ≡ perm_text p)
 
 -- numbers that are three bits each
 pub record AreBits (bits : ModeBits) : Type 0 where
@@ -65,6 +69,10 @@ perm_of a b c = do
 -- the permissions that three bytes of a text spell, from a place on
 abbrev pub perm_at : List ℕ → ℕ → Option ℕ
 perm_at text at = perm_of (slice_index text at) (slice_index text (at + 1)) (slice_index text (at + 2))
+
+-- the permissions that a text of three bytes spells
+abbrev pub perm_in : List ℕ → Option ℕ
+perm_in text = if length text == 3 then perm_at text 0 else None
 
 -- the sticky bit and the letter without it
 abbrev pub sticky_letter : ℕ → Bool × ℕ

@@ -5,6 +5,7 @@ use Rattle.std.specs.Cmp.Lexicographic.{slice_cmp}
 use Rattle.std.specs.declared.cmp.Ordering.{Ordering}
 use Rattle.acl_text.specs.declared.who.Who.{Who}
 use Rattle.acl_text.specs.declared.who.Who.TheVariants.{Owner, User, OwningGroup, Group, Mask, Other}
+use Rattle.acl_text.specs.Ids.{is_id}
 
 -- the place of each kind in the printed order
 abbrev pub rank : Who → ℕ
@@ -23,6 +24,15 @@ id_in OwningGroup = []
 id_in (Group id) = id
 id_in Mask = []
 id_in Other = []
+
+-- the id of a named user or group is one
+abbrev pub is_whose : Who → Bool
+is_whose Owner = true
+is_whose (User id) = is_id id
+is_whose OwningGroup = true
+is_whose (Group id) = is_id id
+is_whose Mask = true
+is_whose Other = true
 
 -- the printed order: by kind, and then by the bytes of the id
 abbrev pub who_cmp : Who → Who → Ordering

@@ -1,16 +1,24 @@
-ghost use Rattle.std.specs.Prelude.{◌≡◌, IfOk};
+ghost use Rattle.std.specs.Prelude.{◌≡◌, Some, IfOk};
 ghost use Rattle.std.specs.FinMap.{find};
 ghost use Rattle.acl_text.specs.Whos.{who_cmp};
 ghost use Rattle.acl_text.specs.Acls.{IsAcl, IsAclMap};
+ghost use Rattle.std.specs.FinMap as fin;
 ghost use Rattle.acl_text.specs.AclMaps.{map_of};
+ghost use Rattle.acl_text.specs.AclWriting.{access_bits};
+ghost use Rattle.acl_text.specs.AclChanges.{group_holder, mode_map, mode_set, pair_of_mode};
+ghost use Rattle.acl_text.specs.declared.who.Who.TheVariants as who;
 ghost use Rattle.acl_text.specs.declared.acl.AclStop.TheVariants.{NoMemory};
 
-use crate::entries::Entries;
-use crate::perm::Perm;
+use crate::entries::{Entries, find, find_user};
+use crate::id::Id;
+use crate::perm::{ModeBits, Perm};
 use crate::who::Who;
 use std::alloc::{AllocError, AllocFailed, Global};
 use std::marker::Model;
 use thiserror::Error;
+
+/// How many entries an access control list has at most, the mask counted.
+pub const ENTRIES_MAX: usize = 32;
 
 /// An access control list: what the owner, the owning group and the others may do, what named users and groups may do, and the
 /// mask. A contract sees the list of its entries in printed order.
@@ -44,11 +52,70 @@ impl Acl {
         self.map.as_slice()
     }
 
-    // The permissions of the entry of one.
-    pub(crate) fn get(&self, who: &Who) -> Option<Perm>
-        ensures { result ≡ find who_cmp who.now self.now }
+    /// What the entry of one gives, where there is one.
+    pub fn get(&self, who: &Who) -> Option<Perm>
+        ensures value { result ≡ find who_cmp who.now self.now }
+        ensures acl { IsAcl self.now }
     {
-        self.map.get(who)
+        find(self.entries(), who)
+    }
+
+    /// What the entry of the owner gives.
+    pub fn owner(&self) -> Perm
+        ensures { find who_cmp who.Owner self.now ≡ Some result }
+    {
+        self.get(&Who::Owner).unwrap()
+    }
+
+    /// What the entry of the owning group gives.
+    pub fn owning_group(&self) -> Perm
+        ensures { find who_cmp who.OwningGroup self.now ≡ Some result }
+    {
+        self.get(&Who::OwningGroup).unwrap()
+    }
+
+    /// What the entry of the others gives.
+    pub fn other(&self) -> Perm
+        ensures { find who_cmp who.Other self.now ≡ Some result }
+    {
+        self.get(&Who::Other).unwrap()
+    }
+
+    /// The mask, where there is one.
+    pub fn mask(&self) -> Option<Perm>
+        ensures { result ≡ find who_cmp who.Mask self.now }
+    {
+        self.get(&Who::Mask)
+    }
+
+    /// What the entry of a named user gives, where there is one.
+    pub fn user(&self, id: &Id) -> Option<Perm>
+        ensures { result ≡ find who_cmp (who.User id.now) self.now }
+    {
+        find_user(self.entries(), id)
+    }
+
+    /// The mode that the list shows: what the owner may do, what the mask gives where there is one and else the owning group, and what
+    /// the others may do, with a sticky bit beside them.
+    pub fn mode(&self, sticky: bool) -> ModeBits
+        ensures mode { result ≡ access_bits sticky self.now }
+        ensures acl { IsAcl self.now }
+    {
+        ModeBits {
+            sticky,
+            owner: self.owner(),
+            group: self.get(&Who::Mask).unwrap_or(self.owning_group()),
+            other: self.other(),
+        }
+    }
+
+    /// The list with the permissions of a mode: of the owner, of the mask where there is one and else of the owning group, and of the
+    /// others. The one error is want of memory.
+    pub fn with_mode(&self, alloc: Global, bits: &ModeBits) -> Result<Acl, AllocError>
+        ensures { IfOk result (λ acl. acl ≡ fin.entries (mode_set bits.now (map_of self.now))) }
+    {
+        let map = mode_set(self.copied_map(alloc)?, bits)?;
+        Ok(Acl { map })
     }
 
     // The entries as a map of their own.
@@ -79,6 +146,17 @@ pub struct AclPair {
 }
 
 impl AclPair {
+    /// The pair that a mode alone gives: an access ACL of the three base entries, and no default ACL. The one error is want of memory.
+    pub fn of_mode(alloc: Global, bits: &ModeBits) -> Result<AclPair, AllocError>
+        ensures { IfOk result (λ pair. pair ≡ pair_of_mode bits.now) }
+    {
+        let map = mode_map(alloc, bits)?;
+        Ok(AclPair {
+            access: Acl { map },
+            default: None,
+        })
+    }
+
     /// Another pair that is equal. The one error is want of memory.
     pub fn copy(&self, alloc: Global) -> Result<AclPair, AllocError>
         ensures { IfOk result (λ pair. pair ≡ self.now) }
@@ -88,6 +166,39 @@ impl AclPair {
             default: copied_default(alloc, &self.default)?,
         })
     }
+}
+
+// The three base entries of a mode.
+fn mode_map(alloc: Global, bits: &ModeBits) -> Result<Entries, AllocError>
+    ensures { IfOk result (λ map. map ≡ mode_map bits.now) }
+{
+    let mut map = Entries::new(alloc);
+    map.put(Who::Owner, bits.owner)?;
+    map.put(Who::OwningGroup, bits.group)?;
+    map.put(Who::Other, bits.other)?;
+    Ok(map)
+}
+
+// Whose entry the group bits of a mode are.
+fn group_holder(map: &Entries) -> Who
+    ensures { result ≡ group_holder map.now }
+{
+    if map.get(&Who::Mask).is_some() {
+        Who::Mask
+    } else {
+        Who::OwningGroup
+    }
+}
+
+fn mode_set(from: Entries, bits: &ModeBits) -> Result<Entries, AllocError>
+    ensures { IfOk result (λ map. map ≡ mode_set bits.now from) }
+{
+    let holder = group_holder(&from);
+    let mut map = from;
+    map.put(Who::Owner, bits.owner)?;
+    map.put(holder, bits.group)?;
+    map.put(Who::Other, bits.other)?;
+    Ok(map)
 }
 
 pub(crate) fn copied_default(
@@ -103,7 +214,7 @@ pub(crate) fn copied_default(
 }
 
 /// Why a text or a list is refused.
-#[derive(Debug, Drop, Error)]
+#[derive(Debug, PartialEq, Eq, Drop, Error)]
 pub enum AclFault {
     /// The first item, counted from 0, that is not of the grammar.
     #[error("Item {0} of the access control list cannot be read.")]
@@ -125,15 +236,43 @@ pub enum AclFault {
     BadSymbolic,
 }
 
+impl AclFault {
+    /// Another fault that is equal. The one error is want of memory.
+    pub fn copy(&self, alloc: Global) -> Result<AclFault, AllocError>
+        ensures { IfOk result (λ fault. fault ≡ self.now) }
+    {
+        Ok(match self {
+            AclFault::BadEntry(at) => AclFault::BadEntry(*at),
+            AclFault::Twice(at) => AclFault::Twice(*at),
+            AclFault::Missing(who) => AclFault::Missing(who.copy(alloc)?),
+            AclFault::TooMany => AclFault::TooMany,
+            AclFault::BadOctal => AclFault::BadOctal,
+            AclFault::BadSymbolic => AclFault::BadSymbolic,
+        })
+    }
+}
+
 /// Why a call on access control lists gave nothing.
-#[derive(Debug, Drop, Error)]
+#[derive(Debug, PartialEq, Eq, Drop, Error)]
 pub enum AclStop {
     /// The text or the list is refused.
     #[error("{0}")]
     Fault(AclFault),
-    /// There was no memory left.
-    #[error("There is no memory left.")]
+    /// There was no memory.
+    #[error("There was no memory.")]
     NoMemory,
+}
+
+impl AclStop {
+    /// Another value that is equal. The one error is want of memory.
+    pub fn copy(&self, alloc: Global) -> Result<AclStop, AllocError>
+        ensures { IfOk result (λ stop. stop ≡ self.now) }
+    {
+        Ok(match self {
+            AclStop::Fault(fault) => AclStop::Fault(fault.copy(alloc)?),
+            AclStop::NoMemory => AclStop::NoMemory,
+        })
+    }
 }
 
 impl From<AllocError> for AclStop {

@@ -1,44 +1,42 @@
-ghost use Rattle.std.specs.Prelude.{◌≡◌, IfOk, IfErr, IfSome, option_map, fold, bit_or, map, filter, if◌then◌else◌};
+ghost use Rattle.std.specs.Prelude.{◌≡◌, Err, IfOk, IfErr, IfSome, option_map, fold, bit_or, map, filter, if◌then◌else◌};
 ghost use Rattle.std.specs.FinMap as fin;
 ghost use Rattle.acl_text.specs.Whos.{is_limited};
 ghost use Rattle.acl_text.specs.AclMaps.{AclMap, map_of, masked, union_of, base_of};
 ghost use Rattle.acl_text.specs.Acls.{IsAclMap, IsComplete};
 ghost use Rattle.acl_text.specs.Stops.{Answers};
-ghost use Rattle.acl_text.specs.AclChanges.{in_scope, names, gives_mask, given_in, changed_scope, default_start, changed_default, is_over, pair_of, acl_modify, missing_in, acl_set, names_item, lists, without, removed_scope, drops_default, removed_default, acl_remove, group_holder, mode_set, acl_with_mode};
+ghost use Rattle.acl_text.specs.AclFaults.{IsModifyFault, IsSetFault};
+ghost use Rattle.acl_text.specs.declared.acl.AclFault.{AclFault};
+ghost use Rattle.acl_text.specs.AclChanges.{names, gives_mask, given_in, changed_scope, default_start, changed_default, is_over, pair_of, acl_modify, missing_in, acl_set, names_item, lists, without, removed_scope, drops_default, removed_default, acl_remove, acl_with_mode};
 
-use crate::acl::{Acl, AclFault, AclPair, AclStop, copied_default};
-use crate::entries::{Entries, is_in_scope, lists};
+use crate::acl::{Acl, AclFault, AclPair, AclStop, ENTRIES_MAX, copied_default};
+use crate::entries::{Entries, lists};
+use crate::item::has_scope;
 use crate::list::{AclList, RemoveList};
 use crate::perm::{ModeBits, Perm};
+use crate::scope::Scope;
 use crate::who::Who;
 use std::alloc::{AllocError, Global};
 
-fn names(items: &[(bool, Who, Perm)], default: bool) -> bool
-    ensures { result ≡ names default items.now }
-{
-    items.iter().any(|item| is_in_scope(default, item.0))
-}
-
-fn gives_mask(items: &[(bool, Who, Perm)], default: bool) -> bool
-    ensures { result ≡ gives_mask default items.now }
+fn gives_mask(items: &[(Scope, Who, Perm)], scope: Scope) -> bool
+    ensures { result ≡ gives_mask scope items.now }
 {
     items
         .iter()
-        .any(|item| is_in_scope(default, item.0) && item.1.is_mask())
+        .any(|item| scope.has(item.0) && item.1.is_mask())
 }
 
 // The entries of a scope in turn put into a map.
 fn with_given(
     alloc: Global,
     from: Entries,
-    items: &[(bool, Who, Perm)],
-    default: bool,
+    items: &[(Scope, Who, Perm)],
+    scope: Scope,
 ) -> Result<Entries, AllocError>
-    ensures { IfOk result (λ entries. entries ≡ given_in default items.now from) }
+    ensures { IfOk result (λ entries. entries ≡ given_in scope items.now from) }
 {
     let mut entries = from;
-    for (scope, who, perm) in items {
-        if is_in_scope(default, *scope) {
+    for (of, who, perm) in items {
+        if scope.has(*of) {
             entries.put(who.copy(alloc)?, *perm)?;
         }
     }
@@ -49,7 +47,7 @@ fn with_given(
 fn union_of(items: &[(Who, Perm)]) -> Perm
     ensures { result ≡ fold bit_or 0 (map (λ e. e.1) (filter (λ e. is_limited e.0) items.now)) }
 {
-    let mut union = Perm::none();
+    let mut union = Perm::NONE;
     for (who, perm) in items {
         if who.is_limited() {
             union = union.union(*perm);
@@ -73,19 +71,19 @@ fn with_mask_rule(entries: Entries, is_mask_given: bool) -> Result<Entries, Allo
     Ok(ruled)
 }
 
-fn changed(
+fn changed_scope(
     alloc: Global,
     from: Entries,
-    items: &[(bool, Who, Perm)],
-    default: bool,
+    items: &[(Scope, Who, Perm)],
+    scope: Scope,
 ) -> Result<Entries, AllocError>
-    ensures { IfOk result (λ entries. entries ≡ changed_scope default items.now from) }
+    ensures { IfOk result (λ entries. entries ≡ changed_scope scope items.now from) }
 {
-    if !names(items, default) {
+    if !has_scope(items, scope) {
         return Ok(from);
     }
-    let entries = with_given(alloc, from, items, default)?;
-    with_mask_rule(entries, gives_mask(items, default))
+    let entries = with_given(alloc, from, items, scope)?;
+    with_mask_rule(entries, gives_mask(items, scope))
 }
 
 fn default_start(
@@ -109,21 +107,21 @@ fn changed_default(
     alloc: Global,
     default: Option<Entries>,
     access: &Entries,
-    items: &[(bool, Who, Perm)],
+    items: &[(Scope, Who, Perm)],
 ) -> Result<Option<Entries>, AllocError>
     ensures { IfOk result (λ changed. changed ≡ changed_default items.now default access.now) }
 {
-    if !names(items, true) {
+    if !has_scope(items, Scope::Default) {
         return Ok(default);
     }
     let start = default_start(alloc, default, access)?;
-    Ok(Some(changed(alloc, start, items, true)?))
+    Ok(Some(changed_scope(alloc, start, items, Scope::Default)?))
 }
 
 fn is_over(entries: &Entries) -> bool
     ensures { result ≡ is_over entries.now }
 {
-    32 < entries.as_slice().len()
+    ENTRIES_MAX < entries.as_slice().len()
 }
 
 // The pair of two maps.
@@ -160,19 +158,28 @@ fn default_map(alloc: Global, default: &Option<Acl>) -> Result<Option<Entries>, 
     }
 }
 
+fn modify_pair(alloc: Global, pair: &AclPair, list: &AclList) -> Result<AclPair, AclStop>
+    ensures { Answers result (acl_modify pair.now list.now) }
+{
+    let items = list.entries();
+    let access = changed_scope(alloc, pair.access.copied_map(alloc)?, items, Scope::Access)?;
+    let start = default_map(alloc, &pair.default)?;
+    let default = changed_default(alloc, start, &access, items)?;
+    pair_of(access, default).map_err(AclStop::Fault)
+}
+
 /// Sets entries: each of the list replaces the entry that the pair has for the same scope and who, or is added.
 ///
 /// A default ACL that isn't there starts as the three base entries of the changed access ACL. In each scope that the list names, a
 /// mask that it gives stands; else the mask is the union of the owning group, the named users and the named groups where there
-/// are named ones, and else there is none. The fault is `TooMany`, exactly where a scope of the result has over 32 entries.
+/// are named ones, and else there is none. The faults are `TooMany`, exactly where a scope of the result has over 32 entries; and
+/// `NoMemory`.
 pub fn modify(alloc: Global, pair: &AclPair, list: &AclList) -> Result<AclPair, AclStop>
-    ensures { Answers result (acl_modify pair.now list.now) }
+    ensures answer { Answers result (acl_modify pair.now list.now) }
+    ensures fault { (f : AclFault) → result ≡ Err (AclStop.Fault f) → IsModifyFault pair.now list.now f }
+    ensures refused { (f : AclFault) → IsModifyFault pair.now list.now f → Answers result (Err f) }
 {
-    let items = list.entries();
-    let access = changed(alloc, pair.access.copied_map(alloc)?, items, false)?;
-    let start = default_map(alloc, &pair.default)?;
-    let default = changed_default(alloc, start, &access, items)?;
-    pair_of(access, default).map_err(AclStop::Fault)
+    modify_pair(alloc, pair, list)
 }
 
 fn missing_in(entries: &Entries) -> Option<Who>
@@ -189,39 +196,41 @@ fn missing_in(entries: &Entries) -> Option<Who>
     }
 }
 
-/// Makes a pair of the entries of a list alone.
-///
-/// A default scope that the list names takes a missing one of the three base entries from the access ACL; one that isn't named
-/// gives no default ACL. In each scope that the list names, a mask that it gives stands; else the mask is the union of the owning
-/// group, the named users and the named groups where there are named ones, and else there is none. The fault is `Missing`, for the
-/// first of the owner, the owning group and the others that has no entry in the access scope, and else `TooMany`, exactly where a
-/// scope of the result has over 32 entries.
-pub fn set(alloc: Global, list: &AclList) -> Result<AclPair, AclStop>
+fn set_pair(alloc: Global, list: &AclList) -> Result<AclPair, AclStop>
     ensures { Answers result (acl_set list.now) }
 {
     let items = list.entries();
-    let given = with_given(alloc, Entries::new(alloc), items, false)?;
+    let given = with_given(alloc, Entries::new(alloc), items, Scope::Access)?;
     match missing_in(&given) {
         Some(who) => return Err(AclStop::Fault(AclFault::Missing(who))),
         None => {}
     }
-    let access = with_mask_rule(given, gives_mask(items, false))?;
+    let access = with_mask_rule(given, gives_mask(items, Scope::Access))?;
     let default = changed_default(alloc, None, &access, items)?;
     pair_of(access, default).map_err(AclStop::Fault)
 }
 
-fn names_item(items: &[(bool, Who)], default: bool) -> bool
-    ensures { result ≡ names_item default items.now }
+/// Makes a pair of the entries of a list alone.
+///
+/// A default scope that the list names takes a missing one of the three base entries from the access ACL; one that isn't named
+/// gives no default ACL. In each scope that the list names, a mask that it gives stands; else the mask is the union of the owning
+/// group, the named users and the named groups where there are named ones, and else there is none. The faults are `Missing`, for the
+/// first of the owner, the owning group and the others that has no entry in the access scope, and else `TooMany`, exactly where a
+/// scope of the result has over 32 entries; and `NoMemory`.
+pub fn set(alloc: Global, list: &AclList) -> Result<AclPair, AclStop>
+    ensures answer { Answers result (acl_set list.now) }
+    ensures fault { (f : AclFault) → result ≡ Err (AclStop.Fault f) → IsSetFault list.now f }
+    ensures refused { (f : AclFault) → IsSetFault list.now f → Answers result (Err f) }
 {
-    items.iter().any(|item| is_in_scope(default, item.0))
+    set_pair(alloc, list)
 }
 
-fn removed(from: Entries, items: &[(bool, Who)], default: bool) -> Result<Entries, AllocError>
-    ensures { IfOk result (λ entries. entries ≡ removed_scope default items.now from) }
+fn removed_scope(from: Entries, items: &[(Scope, Who)], scope: Scope) -> Result<Entries, AllocError>
+    ensures { IfOk result (λ entries. entries ≡ removed_scope scope items.now from) }
 {
     let mut entries = from;
-    if names_item(items, default) {
-        entries.drop_listed(items, default);
+    if has_scope(items, scope) {
+        entries.drop_listed(items, scope);
         entries = with_mask_rule(entries, false)?;
     }
     Ok(entries)
@@ -229,18 +238,18 @@ fn removed(from: Entries, items: &[(bool, Who)], default: bool) -> Result<Entrie
 
 fn removed_default(
     default: Option<Entries>,
-    items: &[(bool, Who)],
+    items: &[(Scope, Who)],
 ) -> Result<Option<Entries>, AllocError>
     ensures { IfOk result (λ left. left ≡ removed_default items.now default) }
 {
-    if lists(items, true, &Who::Owner)
-        && lists(items, true, &Who::OwningGroup)
-        && lists(items, true, &Who::Other)
+    if lists(items, Scope::Default, &Who::Owner)
+        && lists(items, Scope::Default, &Who::OwningGroup)
+        && lists(items, Scope::Default, &Who::Other)
     {
         return Ok(None);
     }
     match default {
-        Some(entries) => Ok(Some(removed(entries, items, true)?)),
+        Some(entries) => Ok(Some(removed_scope(entries, items, Scope::Default)?)),
         None => Ok(None),
     }
 }
@@ -255,31 +264,9 @@ pub fn remove(alloc: Global, pair: &AclPair, list: &RemoveList) -> Result<AclPai
     ensures only_memory { IfErr result (λ stop. stop ≡ AclStop.NoMemory) }
 {
     let items = list.entries();
-    let access = removed(pair.access.copied_map(alloc)?, items, false)?;
+    let access = removed_scope(pair.access.copied_map(alloc)?, items, Scope::Access)?;
     let default = removed_default(default_map(alloc, &pair.default)?, items)?;
     pair_of(access, default).map_err(AclStop::Fault)
-}
-
-// Whose entry the group bits of a mode are.
-fn group_holder(map: &Entries) -> Who
-    ensures { result ≡ group_holder map.now }
-{
-    if map.get(&Who::Mask).is_some() {
-        Who::Mask
-    } else {
-        Who::OwningGroup
-    }
-}
-
-fn mode_set(from: Entries, bits: &ModeBits) -> Result<Entries, AllocError>
-    ensures { IfOk result (λ map. map ≡ mode_set bits.now from) }
-{
-    let holder = group_holder(&from);
-    let mut map = from;
-    map.put(Who::Owner, bits.owner)?;
-    map.put(holder, bits.group)?;
-    map.put(Who::Other, bits.other)?;
-    Ok(map)
 }
 
 /// Sets the permissions of a mode: of the owner, of the mask where there is one and else of the owning group, and of the others,
@@ -287,9 +274,8 @@ fn mode_set(from: Entries, bits: &ModeBits) -> Result<Entries, AllocError>
 pub fn with_mode(alloc: Global, pair: &AclPair, bits: &ModeBits) -> Result<AclPair, AllocError>
     ensures { IfOk result (λ changed. changed ≡ acl_with_mode pair.now bits.now) }
 {
-    let map = mode_set(pair.access.copied_map(alloc)?, bits)?;
     Ok(AclPair {
-        access: Acl { map },
+        access: pair.access.with_mode(alloc, bits)?,
         default: copied_default(alloc, &pair.default)?,
     })
 }

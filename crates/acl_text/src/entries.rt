@@ -1,13 +1,18 @@
 ghost use Rattle.std.specs.Prelude.{◌≡◌, ◌||◌, not, IfOk, is_ok, if◌then◌else◌};
 ghost use Rattle.std.specs.FinMap as fin;
 ghost use Rattle.std.specs.FinMap.{find, put};
+ghost use Rattle.std.specs.Ordering.{eq_by_cmp};
+ghost use Rattle.acl_text.specs.declared.who.Who.TheVariants.{User};
+ghost use Rattle.acl_text.specs.Held.{AreHeld};
 ghost use Rattle.acl_text.specs.Whos.{who_cmp, is_named, is_base, is_mask, is_limited};
 ghost use Rattle.acl_text.specs.AclMaps.{has_named, union_of, base_of, without_mask};
-ghost use Rattle.acl_text.specs.AclChanges.{in_scope, lists, without};
+ghost use Rattle.acl_text.specs.AclChanges.{lists, without};
 ghost use Rattle.acl_text.specs.Places.{place_of, stands_in};
 
+use crate::id::Id;
 use crate::perm::Perm;
-use crate::who::{Who, compare};
+use crate::scope::Scope;
+use crate::who::Who;
 use std::alloc::{AllocError, Global};
 use std::cmp::Ordering;
 use std::marker::Model;
@@ -24,6 +29,7 @@ impl Model for Entries {
     ghost use Rattle.std.specs.FinMap.{FinMap, is_sorted};
     ghost use Rattle.std.specs.Coded.{codes, coded_ℕ};
     ghost use Rattle.acl_text.specs.Whos.{who_cmp};
+    ghost use Rattle.acl_text.specs.Held.{AreHeld};
 
     ghost Value = { FinMap who_cmp ℕ };
 
@@ -31,7 +37,7 @@ impl Model for Entries {
 
     ghost view = { λ e. fin.from_sorted e.items.items };
 
-    ghost invariant = { λ e. IsTrue (is_sorted who_cmp e.items.items) };
+    ghost invariant = { λ e. IsTrue (is_sorted who_cmp e.items.items) × AreHeld e.items.items };
 }
 
 impl Entries {
@@ -44,7 +50,8 @@ impl Entries {
     }
 
     pub(crate) fn as_slice(&self) -> &[(Who, Perm)]
-        ensures { result.now ≡ fin.entries self.now }
+        ensures value { result.now ≡ fin.entries self.now }
+        ensures held { AreHeld (fin.entries self.now) }
     {
         self.items.as_slice()
     }
@@ -52,13 +59,15 @@ impl Entries {
     pub(crate) fn get(&self, who: &Who) -> Option<Perm>
         ensures { result ≡ fin.get self.now who.now }
     {
-        found(self.items.as_slice(), who)
+        find(self.items.as_slice(), who)
     }
 
     // Sets the permissions of one, who has an entry from then on.
     pub(crate) fn put(&mut self, who: Who, perm: Perm) -> Result<(), AllocError>
         ensures { self.new ≡ (if is_ok result then fin.insert self.old who perm else self.old) }
     {
+        // What every entry keeps: an id that is one, and three bits.
+        let (_id, _bits) = (who.id(), perm.bits());
         put_in_order(&mut self.items, who, perm)
     }
 
@@ -66,7 +75,7 @@ impl Entries {
         ensures { IfOk result (λ entries. entries ≡ self.now) }
     {
         Ok(Entries {
-            items: copied(alloc, self.items.as_slice())?,
+            items: copy_entries(alloc, self.items.as_slice())?,
         })
     }
 
@@ -84,10 +93,10 @@ impl Entries {
     }
 
     // Keeps the base entries, and those that a list doesn't name in a scope.
-    pub(crate) fn drop_listed(&mut self, listed: &[(bool, Who)], default: bool)
-        ensures { self.new ≡ without default listed.now self.old }
+    pub(crate) fn drop_listed(&mut self, listed: &[(Scope, Who)], scope: Scope)
+        ensures { self.new ≡ without scope listed.now self.old }
     {
-        self.items.retain(|entry| stays(listed, default, &entry.0));
+        self.items.retain(|entry| stays(listed, scope, &entry.0));
     }
 
     pub(crate) fn has_named(&self) -> bool
@@ -97,11 +106,33 @@ impl Entries {
     }
 }
 
-fn found(items: &[(Who, Perm)], who: &Who) -> Option<Perm>
+// What the entry of one gives.
+pub(crate) fn find(items: &[(Who, Perm)], who: &Who) -> Option<Perm>
     ensures { result ≡ find who_cmp who.now items.now }
 {
     for entry in items {
-        if compare(who, &entry.0) == Ordering::Equal {
+        if *who == entry.0 {
+            return Some(entry.1);
+        }
+    }
+    None
+}
+
+fn is_user(who: &Who, id: &Id) -> bool
+    ensures { result ≡ eq_by_cmp who_cmp (User id.now) who.now }
+{
+    match who {
+        Who::User(user) => id == user,
+        _ => false,
+    }
+}
+
+// What the entry of a named user gives.
+pub(crate) fn find_user(items: &[(Who, Perm)], id: &Id) -> Option<Perm>
+    ensures { result ≡ find who_cmp (User id.now) items.now }
+{
+    for entry in items {
+        if is_user(&entry.0, id) {
             return Some(entry.1);
         }
     }
@@ -114,7 +145,7 @@ fn place(items: &[(Who, Perm)], who: &Who) -> Result<usize, usize>
 {
     let mut at = 0;
     for entry in items {
-        match compare(who, &entry.0) {
+        match who.cmp(&entry.0) {
             Ordering::Less => return Err(at),
             Ordering::Equal => return Ok(at),
             Ordering::Greater => at += 1,
@@ -133,7 +164,7 @@ fn put_in_order(items: &mut Vec<(Who, Perm)>, who: Who, perm: Perm) -> Result<()
     Ok(())
 }
 
-fn copied(alloc: Global, items: &[(Who, Perm)]) -> Result<Vec<(Who, Perm)>, AllocError>
+fn copy_entries(alloc: Global, items: &[(Who, Perm)]) -> Result<Vec<(Who, Perm)>, AllocError>
     ensures { IfOk result (λ copied. copied.items ≡ items.now) }
 {
     let mut copied = Vec::new(alloc);
@@ -143,23 +174,15 @@ fn copied(alloc: Global, items: &[(Who, Perm)]) -> Result<Vec<(Who, Perm)>, Allo
     Ok(copied)
 }
 
-// Whether a scope flag is that of the default scope (true) or of the access scope (false).
-pub(crate) fn is_in_scope(default: bool, scope: bool) -> bool
-    ensures { result ≡ in_scope default scope }
-{
-    default == scope
-}
-
 // Whether a list of items to remove has one for someone in a scope.
-pub(crate) fn lists(items: &[(bool, Who)], default: bool, who: &Who) -> bool
-    ensures { result ≡ lists default items.now who.now }
+pub(crate) fn lists(items: &[(Scope, Who)], scope: Scope, who: &Who) -> bool
+    ensures { result ≡ lists scope items.now who.now }
 {
-    items.iter().any(|item| is_in_scope(default, item.0)
-        && compare(&item.1, who) == Ordering::Equal)
+    items.iter().any(|item| scope.has(item.0) && item.1 == *who)
 }
 
-fn stays(listed: &[(bool, Who)], default: bool, who: &Who) -> bool
-    ensures { result ≡ (is_base who.now || not (lists default listed.now who.now)) }
+fn stays(listed: &[(Scope, Who)], scope: Scope, who: &Who) -> bool
+    ensures { result ≡ (is_base who.now || not (lists scope listed.now who.now)) }
 {
-    who.is_base() || !lists(listed, default, who)
+    who.is_base() || !lists(listed, scope, who)
 }

@@ -1,13 +1,12 @@
-ghost use Rattle.std.specs.Prelude.{◌≡◌, ◌↔◌, ◌<◌, ◌++◌, length, Ok, IfErr, is_ok, if◌then◌else◌};
+ghost use Rattle.std.specs.Prelude.{◌≡◌, ◌↔◌, ◌<◌, ◌++◌, not, length, Ok, IfErr, is_ok, if◌then◌else◌};
+ghost use Rattle.std.specs.List.{list_any};
 ghost use Rattle.acl_text.specs.AclWriting.{access_bits, permissions_text};
-ghost use Rattle.acl_text.specs.Whos.{who_cmp};
+ghost use Rattle.acl_text.specs.Whos.{who_cmp, is_base};
 ghost use Rattle.acl_text.specs.PermTexts.{octal_digit, sticky_digit, sticky_letter, octal_mode, symbolic_mode, has_symbolic_length, mode_fault, permissions_of, umask_of, SpellsMode, SpellsUmask};
 ghost use Rattle.acl_text.specs.declared.perm.ModeBits.{ModeBits};
 
 use crate::acl::{Acl, AclFault};
-use crate::perm::{ModeBits, Perm};
-use crate::read_entry::perm_at;
-use crate::who::Who;
+use crate::perm::{ModeBits, Perm, perm_at};
 use std::alloc::AllocError;
 
 fn octal_digit(byte: u8) -> Option<Perm>
@@ -128,18 +127,11 @@ fn umask_of(text: &[u8]) -> Result<ModeBits, AclFault>
     octal_mode(text).ok_or(AclFault::BadOctal)
 }
 
-// The mode of an access ACL.
-fn access_bits(access: &Acl, sticky: bool) -> ModeBits
-    ensures { result ≡ access_bits sticky access.now }
+// Whether there are other entries than the three base ones.
+fn has_more_than_base(access: &Acl) -> bool
+    ensures { result ≡ list_any (λ e. not (is_base e.0)) access.now }
 {
-    let owner = access.get(&Who::Owner);
-    let owning_group = access.get(&Who::OwningGroup).unwrap_or(Perm::none());
-    ModeBits {
-        sticky,
-        owner: owner.unwrap_or(Perm::none()),
-        group: access.get(&Who::Mask).unwrap_or(owning_group),
-        other: access.get(&Who::Other).unwrap_or(Perm::none()),
-    }
+    access.entries().iter().any(|entry| !entry.0.is_base())
 }
 
 /// Writes the permissions of an access ACL at the end of a text, as nine characters: what the owner may do, what the mask gives where
@@ -151,7 +143,7 @@ pub fn write_permissions(access: &Acl, sticky: bool, out: &mut Vec<u8>) -> Resul
     ensures text { out.new.items ≡ (if is_ok result then out.old.items ++ permissions_text sticky access.now else out.old.items) }
     ensures read_back { permissions_of (permissions_text sticky access.now) ≡ Ok (access_bits sticky access.now) }
 {
-    let text = access_bits(access, sticky).symbolic();
-    let length = if 3 < access.entries().len() { 10 } else { 9 };
+    let text = access.mode(sticky).symbolic();
+    let length = if has_more_than_base(access) { 10 } else { 9 };
     out.extend_from_slice(&text[..length])
 }

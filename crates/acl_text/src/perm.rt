@@ -1,5 +1,5 @@
-ghost use Rattle.std.specs.Prelude.{◌≡◌, ◌<◌, ◌≤◌, ◌↔◌, [], ◌∷◌, ◌++◌, IsNone, IfSome, bit_or};
-ghost use Rattle.acl_text.specs.PermTexts.{AreBits, flag_of, letter, last_letter, perm_of, perm_text, symbolic_text};
+ghost use Rattle.std.specs.Prelude.{◌≡◌, ◌<◌, ◌≤◌, ◌↔◌, ◌==◌, ◌+◌, ℕ, [], ◌∷◌, ◌++◌, length, Some, IsNone, IfSome, bit_and, bit_or};
+ghost use Rattle.acl_text.specs.PermTexts.{AreBits, SpellsPerm, flag_of, letter, last_letter, perm_at, perm_in, perm_of, perm_text, symbolic_text};
 
 use std::marker::Model;
 
@@ -22,11 +22,36 @@ impl Model for Perm {
 }
 
 impl Perm {
-    // No permissions.
-    pub(crate) fn none() -> Perm
-        ensures { result ≡ 0 }
+    /// No permissions, `---`.
+    pub const NONE: Perm = Perm { bits: 0 };
+
+    /// To execute, `--x`: to pass through a directory.
+    pub const EXECUTE: Perm = Perm { bits: 1 };
+
+    /// To write, `-w-`.
+    pub const WRITE: Perm = Perm { bits: 2 };
+
+    /// To write and to execute, `-wx`: to change what is in a directory.
+    pub const WRITE_EXECUTE: Perm = Perm { bits: 3 };
+
+    /// To read, `r--`.
+    pub const READ: Perm = Perm { bits: 4 };
+
+    /// To read and to execute, `r-x`: to list a directory.
+    pub const READ_EXECUTE: Perm = Perm { bits: 5 };
+
+    /// To read and to write, `rw-`.
+    pub const READ_WRITE: Perm = Perm { bits: 6 };
+
+    /// All permissions, `rwx`.
+    pub const ALL: Perm = Perm { bits: 7 };
+
+    /// The permissions of three bits, where it is known that they are no more. `new` is the test.
+    pub fn of(bits: u8) -> Perm
+        requires small { bits < 8 }
+        ensures { result ≡ bits }
     {
-        Perm { bits: 0 }
+        Perm { bits }
     }
 
     /// The permissions of three bits. The answer is `None` exactly for a number above 7.
@@ -54,8 +79,8 @@ impl Perm {
         Some(Perm { bits })
     }
 
-    // The three characters.
-    pub(crate) fn text(self) -> [u8; 3]
+    /// The three characters: `r` or `-`, `w` or `-`, `x` or `-`.
+    pub fn text(self) -> [u8; 3]
         ensures text { result ≡ perm_text self }
         ensures small { self < 8 }
     {
@@ -67,6 +92,20 @@ impl Perm {
         ]
     }
 
+    /// Whether all that is wanted is given.
+    pub fn contains(self, wanted: Perm) -> bool
+        ensures { result ≡ (bit_and wanted self == wanted) }
+    {
+        wanted.bits & self.bits == wanted.bits
+    }
+
+    /// What both of two give.
+    pub fn and(self, other: Perm) -> Perm
+        ensures { result ≡ bit_and self other }
+    {
+        Perm::of(self.bits & other.bits)
+    }
+
     // What either of two gives.
     pub(crate) fn union(self, other: Perm) -> Perm
         ensures { result ≡ bit_or self other }
@@ -75,6 +114,31 @@ impl Perm {
             bits: self.bits | other.bits,
         }
     }
+}
+
+/// Reads the permissions that three characters spell: `r` or `-`, `w` or `-`, `x` or `-`. The answer is `None` exactly for another text.
+pub fn read_perm(text: &[u8]) -> Option<Perm>
+    ensures spelled { (p : ℕ) → ((result ≡ Some p) ↔ SpellsPerm text.now p) }
+    ensures exact { result ≡ perm_in text.now }
+{
+    perm_in(text)
+}
+
+fn perm_in(text: &[u8]) -> Option<Perm>
+    ensures { result ≡ perm_in text.now }
+{
+    if text.len() != 3 {
+        return None;
+    }
+    perm_at(text, 0)
+}
+
+// The permissions that three bytes spell, from a place on.
+pub(crate) fn perm_at(text: &[u8], at: usize) -> Option<Perm>
+    requires { at + 2 < length text.now }
+    ensures { result ≡ perm_at text.now at }
+{
+    Perm::read(text[at], text[at + 1], text[at + 2])
 }
 
 // The value of a letter, and 0 of `-`.

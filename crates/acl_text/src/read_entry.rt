@@ -1,21 +1,21 @@
 ghost use Rattle.std.specs.Prelude.{◌≡◌, IfOk, IfSome, slice_index, ◌+◌, ◌<◌, length, take, drop};
-ghost use Rattle.acl_text.specs.PermTexts.{perm_at};
 ghost use Rattle.acl_text.specs.AclTexts.{scope_of, person_of, who_of, bare_of, who_and_perm_of, entry_of, or_bare, item_of};
 ghost use Rattle.acl_text.specs.declared.who.Who.TheVariants.{Owner, User, OwningGroup, Group};
 
 use crate::id::{Id, read_id};
-use crate::perm::Perm;
+use crate::perm::{Perm, perm_at};
+use crate::scope::Scope;
 use crate::who::Who;
 use std::alloc::{AllocError, Global};
 
-// The scope, true of the default one, and the text behind it.
-fn scope_of(text: &[u8]) -> (bool, &[u8])
+// The scope, and the text behind it.
+fn scope_of(text: &[u8]) -> (Scope, &[u8])
     ensures scope { result.0 ≡ (scope_of text.now).0 }
     ensures rest { result.1.now ≡ (scope_of text.now).1 }
 {
     match text.strip_prefix(b"default:".as_slice()) {
-        Some(rest) => (true, rest),
-        None => (false, text),
+        Some(rest) => (Scope::Default, rest),
+        None => (Scope::Access, text),
     }
 }
 
@@ -81,14 +81,6 @@ fn bare_of(text: &[u8]) -> Option<Who>
     }
 }
 
-// The permissions that three bytes spell, from a place on.
-pub(crate) fn perm_at(text: &[u8], at: usize) -> Option<Perm>
-    requires { at + 2 < length text.now }
-    ensures { result ≡ perm_at text.now at }
-{
-    Perm::read(text[at], text[at + 1], text[at + 2])
-}
-
 // What `type:id:perms` spells.
 #[tactic(auto, unfolding(crate::specs::AclTexts::who_and_perm_of))]
 fn who_and_perm_of(alloc: Global, text: &[u8]) -> Result<Option<(Who, Perm)>, AllocError>
@@ -112,12 +104,12 @@ fn who_and_perm_of(alloc: Global, text: &[u8]) -> Result<Option<(Who, Perm)>, Al
 
 // What an entry of a list spells.
 #[tactic(auto, unfolding(crate::specs::AclTexts::entry_of))]
-pub(crate) fn entry_of(alloc: Global, text: &[u8]) -> Result<Option<(bool, Who, Perm)>, AllocError>
+pub(crate) fn entry_of(alloc: Global, text: &[u8]) -> Result<Option<(Scope, Who, Perm)>, AllocError>
     ensures { IfOk result (λ entry. entry ≡ entry_of text.now) }
 {
-    let (default, rest) = scope_of(text);
+    let (scope, rest) = scope_of(text);
     match who_and_perm_of(alloc, rest)? {
-        Some((who, perm)) => Ok(Some((default, who, perm))),
+        Some((who, perm)) => Ok(Some((scope, who, perm))),
         None => Ok(None),
     }
 }
@@ -133,12 +125,12 @@ fn who_or_bare(alloc: Global, text: &[u8]) -> Result<Option<Who>, AllocError>
 
 // What an item of a list to remove spells.
 #[tactic(auto, unfolding(crate::specs::AclTexts::item_of))]
-pub(crate) fn item_of(alloc: Global, text: &[u8]) -> Result<Option<(bool, Who)>, AllocError>
+pub(crate) fn item_of(alloc: Global, text: &[u8]) -> Result<Option<(Scope, Who)>, AllocError>
     ensures { IfOk result (λ item. item ≡ item_of text.now) }
 {
-    let (default, rest) = scope_of(text);
+    let (scope, rest) = scope_of(text);
     match who_or_bare(alloc, rest)? {
-        Some(who) => Ok(Some((default, who))),
+        Some(who) => Ok(Some((scope, who))),
         None => Ok(None),
     }
 }

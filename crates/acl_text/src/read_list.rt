@@ -1,18 +1,17 @@
-ghost use Rattle.std.specs.Prelude.{◌≡◌, [], ℕ, Bool, List, Ok, Err, IfOk, map};
+ghost use Rattle.std.specs.Prelude.{◌≡◌, [], ℕ, List, Ok, Err, IfOk, IfErr, map};
 ghost use Rattle.std.specs.List.{list_any};
-ghost use Rattle.acl_text.specs.Stops.{Answers};
-ghost use Rattle.acl_text.specs.AclTexts.{items_of, values_of, repeat_from, entry_of, item_of, same_entry, same_item, acl_list_of, remove_list_of, IsAclText, IsRemoveText, IsListFault, SpellsEntry, SpellsItem};
+ghost use Rattle.acl_text.specs.Stops.{Answers, Stops};
+ghost use Rattle.acl_text.specs.AclTexts.{items_of, values_of, repeat_from, list_of, same_of};
+ghost use Rattle.acl_text.specs.AclTexts.{acl_list_of, remove_list_of, same_entry, same_item};
+ghost use Rattle.acl_text.specs.AclTexts.{IsAclText, IsRemoveText, IsListFault, SpellsEntry, SpellsItem};
+ghost use Rattle.acl_text.specs.declared.scope.Scope.{Scope};
 ghost use Rattle.acl_text.specs.declared.who.Who.{Who};
 ghost use Rattle.acl_text.specs.declared.acl.AclFault.{AclFault};
 
 use crate::acl::{AclFault, AclStop};
-use crate::entries::is_in_scope;
-use crate::list::{AclList, RemoveList};
-use crate::perm::Perm;
-use crate::read_entry::{entry_of, item_of};
-use crate::who::{Who, compare};
+use crate::item::{Item, is_same};
+use crate::list::{AclList, ITEMS_MAX, RemoveList};
 use std::alloc::{AllocError, Global};
-use std::cmp::Ordering;
 
 // The items that commas part.
 fn items_of(alloc: Global, text: &[u8]) -> Result<Vec<&[u8]>, AllocError>
@@ -21,98 +20,63 @@ fn items_of(alloc: Global, text: &[u8]) -> Result<Vec<&[u8]>, AllocError>
     text.split(|byte| *byte == b',').collect(alloc)
 }
 
-fn entries_of(alloc: Global, items: &[&[u8]]) -> Result<AclList, AclStop>
-    ensures { Answers result (values_of entry_of (map (λ item. item.now) items.now)) }
+fn values_of<T: Item>(alloc: Global, items: &[&[u8]]) -> Result<Vec<T>, AclStop>
+    ensures read { IfOk result (λ values. values_of T.read_of (map (λ item. item.now) items.now) ≡ Ok values.items) }
+    ensures refused { IfErr result (λ stop. Stops stop (values_of T.read_of (map (λ item. item.now) items.now))) }
 {
-    let mut entries = Vec::new(alloc);
+    let mut values = Vec::new(alloc);
     for (at, item) in items.iter().enumerate() {
-        match entry_of(alloc, item)? {
-            Some(entry) => entries.push(entry)?,
+        match T::read(alloc, item)? {
+            Some(value) => values.push(value)?,
             None => return Err(AclStop::Fault(AclFault::BadEntry(at))),
         }
     }
-    Ok(AclList { items: entries })
+    Ok(values)
 }
 
-fn removals_of(alloc: Global, items: &[&[u8]]) -> Result<RemoveList, AclStop>
-    ensures { Answers result (values_of item_of (map (λ item. item.now) items.now)) }
+fn has<T: Item>(items: &[T], item: &T) -> bool
+    ensures { result ≡ list_any (same_of T.scope_of T.whom item.now) items.now }
 {
-    let mut removals = Vec::new(alloc);
-    for (at, item) in items.iter().enumerate() {
-        match item_of(alloc, item)? {
-            Some(removal) => removals.push(removal)?,
-            None => return Err(AclStop::Fault(AclFault::BadEntry(at))),
-        }
-    }
-    Ok(RemoveList { items: removals })
+    items.iter().any(|other| is_same(item, other))
 }
 
-fn is_same_entry(a: &(bool, Who, Perm), b: &(bool, Who, Perm)) -> bool
-    ensures { result ≡ same_entry a.now b.now }
-{
-    is_in_scope(a.0, b.0) && compare(&a.1, &b.1) == Ordering::Equal
-}
-
-fn is_same_item(a: &(bool, Who), b: &(bool, Who)) -> bool
-    ensures { result ≡ same_item a.now b.now }
-{
-    is_in_scope(a.0, b.0) && compare(&a.1, &b.1) == Ordering::Equal
-}
-
-fn has_entry(entries: &[(bool, Who, Perm)], entry: &(bool, Who, Perm)) -> bool
-    ensures { result ≡ list_any (same_entry entry.now) entries.now }
-{
-    entries.iter().any(|other| is_same_entry(entry, other))
-}
-
-fn has_item(items: &[(bool, Who)], item: &(bool, Who)) -> bool
-    ensures { result ≡ list_any (same_item item.now) items.now }
-{
-    items.iter().any(|other| is_same_item(item, other))
-}
-
-// The first entry that is the same as one before it.
-fn repeated_entry(entries: &[(bool, Who, Perm)]) -> Option<usize>
-    ensures { result ≡ repeat_from same_entry [] entries.now }
-{
-    for at in 0..entries.len() {
-        let entry = &entries[at];
-        if has_entry(&entries[..at], entry) {
-            return Some(at);
-        }
-    }
-    None
-}
-
-fn repeated_item(items: &[(bool, Who)]) -> Option<usize>
-    ensures { result ≡ repeat_from same_item [] items.now }
+// The first that is the same as one before it.
+fn repeated<T: Item>(items: &[T]) -> Option<usize>
+    ensures { result ≡ repeat_from (same_of T.scope_of T.whom) [] items.now }
 {
     for at in 0..items.len() {
         let item = &items[at];
-        if has_item(&items[..at], item) {
+        if has(&items[..at], item) {
             return Some(at);
         }
     }
     None
+}
+
+fn list_of<T: Item>(alloc: Global, text: &[u8]) -> Result<Vec<T>, AclStop>
+    ensures read { IfOk result (λ values. list_of T.read_of (same_of T.scope_of T.whom) text.now ≡ Ok values.items) }
+    ensures refused { IfErr result (λ stop. Stops stop (list_of T.read_of (same_of T.scope_of T.whom) text.now)) }
+{
+    if text.is_empty() {
+        return Ok(Vec::new(alloc));
+    }
+    let items = items_of(alloc, text)?;
+    if ITEMS_MAX < items.len() {
+        return Err(AclStop::Fault(AclFault::TooMany));
+    }
+    let values = values_of::<T>(alloc, items.as_slice())?;
+    match repeated(values.as_slice()) {
+        Some(at) => Err(AclStop::Fault(AclFault::Twice(at))),
+        None => Ok(values),
+    }
 }
 
 fn acl_of(alloc: Global, text: &[u8]) -> Result<AclList, AclStop>
     ensures { Answers result (acl_list_of text.now) }
 {
-    if text.is_empty() {
-        return Ok(AclList {
-            items: Vec::new(alloc),
-        });
-    }
-    let items = items_of(alloc, text)?;
-    if 64 < items.len() {
-        return Err(AclStop::Fault(AclFault::TooMany));
-    }
-    let list = entries_of(alloc, items.as_slice())?;
-    match repeated_entry(list.entries()) {
-        Some(at) => Err(AclStop::Fault(AclFault::Twice(at))),
-        None => Ok(list),
-    }
+    Ok(AclList {
+        items: list_of(alloc, text)?,
+    })
 }
 
 /// Reads entries `[default:]type:id:perms` that commas part. The type is `user`, `group`, `mask` or `other`; the id is empty for the
@@ -120,11 +84,12 @@ fn acl_of(alloc: Global, text: &[u8]) -> Result<AclList, AclStop>
 /// empty text has no entries.
 ///
 /// The faults, in this order: `TooMany` for over 64 items, `BadEntry` for the first item that is no entry, and `Twice` for the
-/// first one whose scope and who stood before.
+/// first one whose scope and who stood before; and `NoMemory`.
 pub fn read_acl(alloc: Global, text: &[u8]) -> Result<AclList, AclStop>
     ensures found { IfOk result (IsAclText text.now) }
-    ensures only { (es : List (Bool × Who × ℕ)) → IsAclText text.now es → Answers result (Ok es) }
+    ensures only { (es : List (Scope × Who × ℕ)) → IsAclText text.now es → Answers result (Ok es) }
     ensures fault { (f : AclFault) → result ≡ Err (AclStop.Fault f) → IsListFault SpellsEntry same_entry text.now f }
+    ensures refused { (f : AclFault) → IsListFault SpellsEntry same_entry text.now f → Answers result (Err f) }
     ensures exact { Answers result (acl_list_of text.now) }
 {
     acl_of(alloc, text)
@@ -133,31 +98,21 @@ pub fn read_acl(alloc: Global, text: &[u8]) -> Result<AclList, AclStop>
 fn remove_list_of(alloc: Global, text: &[u8]) -> Result<RemoveList, AclStop>
     ensures { Answers result (remove_list_of text.now) }
 {
-    if text.is_empty() {
-        return Ok(RemoveList {
-            items: Vec::new(alloc),
-        });
-    }
-    let items = items_of(alloc, text)?;
-    if 64 < items.len() {
-        return Err(AclStop::Fault(AclFault::TooMany));
-    }
-    let list = removals_of(alloc, items.as_slice())?;
-    match repeated_item(list.entries()) {
-        Some(at) => Err(AclStop::Fault(AclFault::Twice(at))),
-        None => Ok(list),
-    }
+    Ok(RemoveList {
+        items: list_of(alloc, text)?,
+    })
 }
 
 /// Reads items `[default:]type`, `[default:]type:` or `[default:]type:id` that commas part, with types and ids as in `read_acl`. The
 /// empty text has no items.
 ///
 /// The faults, in this order: `TooMany` for over 64 items, `BadEntry` for the first item that is not of this form, and `Twice` for
-/// the first one whose scope and who stood before.
+/// the first one whose scope and who stood before; and `NoMemory`.
 pub fn read_remove_list(alloc: Global, text: &[u8]) -> Result<RemoveList, AclStop>
     ensures found { IfOk result (IsRemoveText text.now) }
-    ensures only { (es : List (Bool × Who)) → IsRemoveText text.now es → Answers result (Ok es) }
+    ensures only { (es : List (Scope × Who)) → IsRemoveText text.now es → Answers result (Ok es) }
     ensures fault { (f : AclFault) → result ≡ Err (AclStop.Fault f) → IsListFault SpellsItem same_item text.now f }
+    ensures refused { (f : AclFault) → IsListFault SpellsItem same_item text.now f → Answers result (Err f) }
     ensures exact { Answers result (remove_list_of text.now) }
 {
     remove_list_of(alloc, text)

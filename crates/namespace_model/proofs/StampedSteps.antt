@@ -3,6 +3,7 @@ use Rattle.std.proofs.Common.{◌≡◌, inl, inr, ℕ, Bool, true, false, cond,
 use Rattle.std.proofs.lemmas.Option.{same_Some}
 use Rattle.std.specs.Ordering.{eq_by_cmp}
 use Rattle.std.specs.FinMap.{find}
+use Rattle.acl_text.specs.declared.scope.Scope.{Scope}
 use Rattle.acl_text.specs.declared.who.Who.{Who}
 use Rattle.acl_text.specs.declared.acl.AclPair.{AclPair}
 use Rattle.acl_text.specs.declared.acl.AclFault.{AclFault}
@@ -189,7 +190,7 @@ module _ (t : Tree) (root : IsDirectoryAt t []) (e : Entry) where
       at_node (op.SetProperties p props) p (set_properties_of e p props) (λ x h. go (op.SetProperties p props) (lacks (caller_of e) 2 p x) _ (go (op.SetProperties p props) (is_unmet e x) _ (go (op.SetProperties p props) (lease_refuses e e.request.lease x) (properties_set e p props x)
       (one_put (op.SetProperties p props) [] (p ∷ []) [] None p _ refl (record { stamped = refl; moment = refl })))))
 
-  pub set_access_stamps : (p : Path) (owner group : Option (List ℕ)) (permissions : Option ModeBits) (acl : Option (List (Bool × Who × ℕ)))
+  pub set_access_stamps : (p : Path) (owner group : Option (List ℕ)) (permissions : Option ModeBits) (acl : Option (List (Scope × Who × ℕ)))
       → StampsOf t e (op.SetAccess p owner group permissions acl) (set_access t e p (record { owner = owner; group = group; permissions = permissions; acl = acl }))
   unfolding set_access
   set_access_stamps p owner group permissions acl =

@@ -1,6 +1,8 @@
 -- Set the owner, the group, and the permissions or the access control lists of a node (Path - Update with action=setAccessControl of the
 -- REST reference).
 use Rattle.std.specs.Prelude.{ℕ, Bool, true, false, not, ◌&&◌, List, Option, Some, None, Result, Ok, Err, unwrap_or}
+use Rattle.acl_text.specs.declared.scope.Scope.{Scope}
+use Rattle.acl_text.specs.declared.scope.Scope.TheVariants.{Default}
 use Rattle.acl_text.specs.declared.who.Who.{Who}
 use Rattle.acl_text.specs.declared.acl.AclPair.{AclPair}
 use Rattle.acl_text.specs.declared.acl.AclFault.{AclFault}
@@ -22,18 +24,18 @@ pub record Setting : Type 0 where
   pub owner : Option (List ℕ)
   pub group : Option (List ℕ)
   pub permissions : Option ModeBits
-  pub acl : Option (List (Bool × Who × ℕ))
+  pub acl : Option (List (Scope × Who × ℕ))
 
 -- a list that names the default scope
-abbrev pub has_default : Option (List (Bool × Who × ℕ)) → Bool
+abbrev pub has_default : Option (List (Scope × Who × ℕ)) → Bool
 has_default None = false
-has_default (Some list) = names true list
+has_default (Some list) = names Default list
 
 abbrev pub by_mode : Option ModeBits → AclPair → AclPair
 by_mode None pair = pair
 by_mode (Some bits) pair = acl_with_mode pair bits
 
-abbrev pub by_list : Option (List (Bool × Who × ℕ)) → AclPair → Result AclPair AclFault
+abbrev pub by_list : Option (List (Scope × Who × ℕ)) → AclPair → Result AclPair AclFault
 by_list None pair = Ok pair
 by_list (Some list) pair = acl_set list
 

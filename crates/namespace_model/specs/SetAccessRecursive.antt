@@ -1,9 +1,12 @@
 -- Change the access control lists of a node and of all that is below it, so many nodes at a time (Path - Update with
 -- action=setAccessControlRecursive of the REST reference).
 use Rattle.std.specs.Prelude.{ℕ, Bool, true, false, not, ◌==◌, List, [], ◌∷◌, length, map, filter, slice_get, count_by, codes, Option, Some, None, Result, Ok, Err, if◌then◌else◌}
+use Rattle.acl_text.specs.declared.scope.Scope.{Scope}
+use Rattle.acl_text.specs.declared.scope.Scope.TheVariants.{Access}
 use Rattle.acl_text.specs.declared.who.Who.{Who}
 use Rattle.acl_text.specs.declared.acl.AclPair.{AclPair}
 use Rattle.acl_text.specs.declared.acl.AclFault.{AclFault}
+use Rattle.acl_text.specs.Scopes.{in_scope}
 use Rattle.acl_text.specs.AclChanges.{acl_set, acl_modify, acl_remove}
 use Rattle.path_text.specs.Paths.{is_prefix}
 use Rattle.serde_json.specs.Data.{Data, object, member, no_members, string, number, unsigned, array, Items, item, no_items}
@@ -28,13 +31,13 @@ use Rattle.namespace_model.specs.Looks.{found}
 -- ---- one node
 
 -- for a directory all of a list, and for a file what is of the access scope
-abbrev pub items_for_kind : Bool → List (Bool × Who) → List (Bool × Who)
+abbrev pub items_for_kind : Bool → List (Scope × Who) → List (Scope × Who)
 items_for_kind true list = list
-items_for_kind false list = filter (λ item. not item.0) list
+items_for_kind false list = filter (λ item. in_scope Access item.0) list
 
-abbrev pub entries_for_kind : Bool → List (Bool × Who × ℕ) → List (Bool × Who × ℕ)
+abbrev pub entries_for_kind : Bool → List (Scope × Who × ℕ) → List (Scope × Who × ℕ)
 entries_for_kind true list = list
-entries_for_kind false list = filter (λ entry. not entry.0) list
+entries_for_kind false list = filter (λ entry. in_scope Access entry.0) list
 
 abbrev pub changed_pair : BatchChange → Bool → AclPair → Result AclPair AclFault
 changed_pair (Set list) is_dir pair = acl_set (entries_for_kind is_dir list)

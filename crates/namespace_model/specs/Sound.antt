@@ -1,6 +1,7 @@
 -- What every decoded request keeps: its paths keep the limits and have as many parts as its operation asks for, it has all that its
 -- operation needs, and it has nothing that decoding refuses.
 use Rattle.std.specs.Prelude.{◌≡◌, ◌⊎◌, ℕ, ◌≤◌, Bool, true, false, ⊤, List, length, take, Option, Some, None, IfSome, IsSome, IsOk}
+use Rattle.acl_text.specs.declared.scope.Scope.{Scope}
 use Rattle.acl_text.specs.declared.who.Who.{Who}
 use Rattle.acl_text.specs.declared.perm.ModeBits.{ModeBits}
 use Rattle.acl_text.specs.AclChanges.{acl_set}
@@ -67,17 +68,17 @@ abbrev pub IsUmask : ModeBits → Type 0
 IsUmask umask = umask.sticky ≡ false
 
 -- entries as a text gives them: at most 64, and none for the same one in the same scope twice
-pub record AreEntries (list : List (Bool × Who × ℕ)) : Type 0 where
+pub record AreEntries (list : List (Scope × Who × ℕ)) : Type 0 where
   pub few : length list ≤ 64
   pub once : NoneRepeats same_entry list
 
 -- the same of items to remove
-pub record AreItems (list : List (Bool × Who)) : Type 0 where
+pub record AreItems (list : List (Scope × Who)) : Type 0 where
   pub few : length list ≤ 64
   pub once : NoneRepeats same_item list
 
 -- entries that make access control lists by themselves
-pub record CanBeSet (list : List (Bool × Who × ℕ)) : Type 0 where
+pub record CanBeSet (list : List (Scope × Who × ℕ)) : Type 0 where
   pub entries : AreEntries list
   pub complete : IsOk (acl_set list)
 
@@ -87,7 +88,7 @@ IsBatchChange (Modify list) = AreEntries list
 IsBatchChange (Remove list) = AreItems list
 
 -- at least one of the four is given, and not both permissions and a list
-pub record IsSetting (owner group : Option (List ℕ)) (permissions : Option ModeBits) (acl : Option (List (Bool × Who × ℕ))) : Type 0 where
+pub record IsSetting (owner group : Option (List ℕ)) (permissions : Option ModeBits) (acl : Option (List (Scope × Who × ℕ))) : Type 0 where
   pub some : IsSome owner ⊎ (IsSome group ⊎ (IsSome permissions ⊎ IsSome acl))
   pub one : ¬ (IsSome permissions × IsSome acl)
   pub list : IfSome acl CanBeSet

@@ -1,13 +1,10 @@
-use Rattle.std.proofs.Common.{false, IfSome, sym, subst}
-use Rattle.acl_text.specs.Acls.{IsComplete}
-use Rattle.acl_text.proofs.AclLemmas.{IsComplete-changed_scope, IsComplete-changed_default}
+use Rattle.acl_text.specs.AclChanges.{acl_modify}
+use Rattle.acl_text.proofs.TextLemmas.{answers_along, fault_is}
+use Rattle.acl_text.proofs.FaultLemmas.{modify_fault, modify_refused}
 use Rattle.acl_text.proofs.change.modify.Goals as goal
 
-pub pair_of-requires-clause-access : goal.pair_of-requires-clause-access
-pair_of-requires-clause-access c =
-    subst IsComplete (sym c.in_ok-access.ensures) (IsComplete-changed_scope false c.entries-items.result.now c.in_ok-copied_map.field-0 c.in_ok-copied_map.ensures.acl.complete)
+pub returns-clause-fault : goal.returns-clause-fault
+returns-clause-fault c = λ f e. fault_is _ _ (acl_modify c.args.pair.now c.args.list.now) _ c.modify_pair.ensures (modify_fault c.args.pair.now c.args.list.now) f e
 
-pub pair_of-requires-clause-default : goal.pair_of-requires-clause-default
-pair_of-requires-clause-default c =
-    let access = subst IsComplete (sym c.in_ok-access.ensures) (IsComplete-changed_scope false c.entries-items.result.now c.in_ok-copied_map.field-0 c.in_ok-copied_map.ensures.acl.complete) in
-    subst (λ d. IfSome d IsComplete) (sym c.in_ok-default.ensures) (IsComplete-changed_default c.entries-items.result.now c.in_ok-start.start c.in_ok-access.access access c.in_ok-start.ensures.complete)
+pub returns-clause-refused : goal.returns-clause-refused
+returns-clause-refused c = λ f h. answers_along _ (acl_modify c.args.pair.now c.args.list.now) _ c.modify_pair.ensures (modify_refused c.args.pair.now c.args.list.now f h)

@@ -1,23 +1,10 @@
-use Rattle.std.proofs.Common.{◌≡◌, ℕ, Bool, false, List, None, IfSome, sym, ap, subst, ◌∙◌}
-use Rattle.std.specs.FinMap as fin
-use Rattle.acl_text.specs.AclMaps.{AclMap, masked}
-use Rattle.acl_text.specs.AclChanges.{given_in, gives_mask, missing_in}
-use Rattle.acl_text.specs.Acls.{IsComplete}
-use Rattle.acl_text.specs.declared.who.Who.{Who}
-use Rattle.acl_text.proofs.AclLemmas.{IsComplete-set, IsComplete-changed_default}
+use Rattle.acl_text.specs.AclChanges.{acl_set}
+use Rattle.acl_text.proofs.TextLemmas.{answers_along, fault_is}
+use Rattle.acl_text.proofs.FaultLemmas.{set_fault, set_refused}
 use Rattle.acl_text.proofs.change.set.Goals as goal
 
--- the access scope of a set is complete
-complete : (items : List (Bool × Who × ℕ)) (given access : AclMap) (mask : Bool)
-    → given ≡ given_in false items fin.empty → missing_in given ≡ None → mask ≡ gives_mask false items → access ≡ masked mask given → IsComplete access
-complete items given access mask is none gives e =
-    subst IsComplete (sym (e ∙ (λ i. masked (gives i) (is i)))) (IsComplete-set items (ap missing_in (sym is) ∙ none))
+pub returns-clause-fault : goal.returns-clause-fault
+returns-clause-fault c = λ f e. fault_is _ _ (acl_set c.args.list.now) _ c.set_pair.ensures (set_fault c.args.list.now) f e
 
-pub pair_of-requires-clause-access : goal.pair_of-requires-clause-access
-pair_of-requires-clause-access c =
-    complete c.entries-items.result.now c.in_ok-given.given c.in_ok-access.access c.gives_mask.result (c.in_ok-given.ensures ∙ ap (given_in false c.entries-items.result.now) c.new.ensures) (sym c.missing_in.ensures ∙ c.in-None.is) c.gives_mask.ensures c.in_ok-access.ensures
-
-pub pair_of-requires-clause-default : goal.pair_of-requires-clause-default
-pair_of-requires-clause-default c =
-    let access = complete c.entries-items.result.now c.in_ok-given.given c.in_ok-access.access c.gives_mask.result (c.in_ok-given.ensures ∙ ap (given_in false c.entries-items.result.now) c.new.ensures) (sym c.missing_in.ensures ∙ c.in-None.is) c.gives_mask.ensures c.in_ok-access.ensures in
-    subst (λ d. IfSome d IsComplete) (sym c.in_ok-default.ensures) (IsComplete-changed_default c.entries-items.result.now None c.in_ok-access.access access tt)
+pub returns-clause-refused : goal.returns-clause-refused
+returns-clause-refused c = λ f h. answers_along _ (acl_set c.args.list.now) _ c.set_pair.ensures (set_refused c.args.list.now f h)

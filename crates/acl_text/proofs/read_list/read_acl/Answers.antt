@@ -1,5 +1,5 @@
 use Rattle.acl_text.specs.AclTexts.{acl_list_of}
-use Rattle.acl_text.proofs.TextLemmas.{fault_is, acl_text_fault, ok_is, answers_along, acl_text_is, acl_text_only}
+use Rattle.acl_text.proofs.TextLemmas.{fault_is, acl_text_fault, acl_text_refused, ok_is, answers_along, acl_text_is, acl_text_only}
 use Rattle.acl_text.proofs.read_list.read_acl.Goals as goal
 
 pub returns-clause-found : goal.returns-clause-found
@@ -10,3 +10,6 @@ returns-clause-only c = λ es h. answers_along _ (acl_list_of c.args.text.now) _
 
 pub returns-clause-fault : goal.returns-clause-fault
 returns-clause-fault c = λ f e. fault_is _ _ (acl_list_of c.args.text.now) _ c.acl_of.ensures (acl_text_fault c.args.text.now) f e
+
+pub returns-clause-refused : goal.returns-clause-refused
+returns-clause-refused c = λ f h. answers_along _ (acl_list_of c.args.text.now) _ c.acl_of.ensures (acl_text_refused c.args.text.now f h)

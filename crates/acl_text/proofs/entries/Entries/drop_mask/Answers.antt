@@ -4,7 +4,7 @@ use Rattle.std.specs.FinMap as fin
 use Rattle.std.specs.FinMap.Entries.{where_key}
 use Rattle.acl_text.specs.declared.who.Who.{Who}
 use Rattle.acl_text.specs.Whos.{who_cmp, is_mask}
-use Rattle.acl_text.proofs.EntryLemmas.{kept_sorted, map-kept}
+use Rattle.acl_text.proofs.EntryLemmas.{kept_sorted, held_kept, map-kept}
 use Rattle.acl_text.proofs.entries.Entries.drop_mask.Goals as goal
 
 abbrev stays : Who → Bool
@@ -14,10 +14,10 @@ pub invariant_of-self : goal.invariant_of-self
 invariant_of-self c =
     let kept : c.retain.new.self.items ≡ where_key who_cmp stays c.self.inside.items.items =
     filter_same _ (λ (e : Who × ℕ). not (is_mask e.0)) _ (λ x b q h. search (rules, tests)) _ _ c.retain.ensures.filtered in
-    rw kept (kept_sorted stays c.self.inside.items.items c.self.invariant)
+    rw kept (kept_sorted stays c.self.inside.items.items c.self.invariant.0, held_kept stays c.self.inside.items.items c.self.invariant.1)
 
 pub returns : goal.returns
 returns c =
     let kept : c.retain.new.self.items ≡ where_key who_cmp stays c.self.inside.items.items =
     filter_same _ (λ (e : Who × ℕ). not (is_mask e.0)) _ (λ x b q h. search (rules, tests)) _ _ c.retain.ensures.filtered in
-    ap fin.from_sorted kept ∙ map-kept stays c.self.inside.items.items c.self.invariant ∙ ap (λ m. fin.retain_keys m stays) c.self.view_is
+    ap fin.from_sorted kept ∙ map-kept stays c.self.inside.items.items c.self.invariant.0 ∙ ap (λ m. fin.retain_keys m stays) c.self.view_is

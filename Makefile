@@ -32,6 +32,7 @@ try:
 bench:
 	bench/pipe
 	bench/paths
+	bench/files
 
 fmt:
 	for crate in crates/*/src; do (cd $$crate/.. && rt fmt); done

@@ -19,6 +19,7 @@ pub fn answer(
         "written_lease_ids" => written_id(first, out)?,
         "lease_steps" => step(alloc, first, second, out)?,
         "lease_appends" => append(alloc, first, second, out)?,
+        "lease_messages" => message(alloc, first, out)?,
         _ => return Ok(false),
     }
     Ok(true)
@@ -223,4 +224,29 @@ fn say_lease(alloc: Global, lease: &Lease, out: &mut Vec<u8>) -> Result<(), Allo
         Lease::Broken { id } => format!(in alloc; "broken {id}")?,
     };
     say(out, text.as_str())
+}
+
+// The message of a fault.
+fn message(alloc: Global, name: &[u8], out: &mut Vec<u8>) -> Result<(), AllocError> {
+    match str::from_utf8(name).ok().and_then(fault_of) {
+        Some(fault) => say(out, format!(in alloc; "{fault}")?.as_str()),
+        None => say(out, "no fault"),
+    }
+}
+
+fn fault_of(name: &str) -> Option<LeaseFault> {
+    match name {
+        "LeaseIdMissing" => Some(LeaseFault::LeaseIdMissing),
+        "LeaseIdMismatchWithBlobOperation" => Some(LeaseFault::LeaseIdMismatchWithBlobOperation),
+        "LeaseLost" => Some(LeaseFault::LeaseLost),
+        "LeaseAlreadyPresent" => Some(LeaseFault::LeaseAlreadyPresent),
+        "LeaseIdMismatchWithLeaseOperation" => Some(LeaseFault::LeaseIdMismatchWithLeaseOperation),
+        "LeaseNotPresentWithLeaseOperation" => Some(LeaseFault::LeaseNotPresentWithLeaseOperation),
+        "LeaseIsBreakingAndCannotBeAcquired" => {
+            Some(LeaseFault::LeaseIsBreakingAndCannotBeAcquired)
+        }
+        "LeaseIsBreakingAndCannotBeChanged" => Some(LeaseFault::LeaseIsBreakingAndCannotBeChanged),
+        "LeaseIsBrokenAndCannotBeRenewed" => Some(LeaseFault::LeaseIsBrokenAndCannotBeRenewed),
+        _ => None,
+    }
 }

@@ -29,13 +29,6 @@ impl Ended {
     }
 }
 
-fn solo_of(alloc: Global, requests_max: u64) -> Result<Solo, AllocError> {
-    match Limits::new(1, 10, 100, requests_max) {
-        Some(limits) => Solo::start(alloc, &limits),
-        None => Err(AllocError),
-    }
-}
-
 // A source that gives the request to make the filesystem twice, one at a read.
 fn source_of(alloc: Global, failing: &[u64]) -> Result<BytesIn, AllocError> {
     let mut pieces = Vec::new(alloc);
@@ -55,33 +48,29 @@ fn sink_of(
     BytesOut::new(alloc, most.max(1), room, failing)
 }
 
-// Serves the connection.
-fn serve(
-    alloc: Global,
-    solo: &mut Solo,
-    source: &mut BytesIn,
-    sink: &mut BytesOut,
-) -> Result<(u64, End), AllocError> {
-    let limits = solo.journal().limits();
-    if limits.requests_max() > limits.journal_max() - solo.journal().len() {
-        return Err(AllocError);
-    }
-    Ok(serve_solo(alloc, solo, source, sink, &mut FixedClock(0)))
-}
-
+// Serves the connection, of which so many requests may come.
 fn served(
     alloc: Global,
     requests_max: u64,
     source: &mut BytesIn,
     sink: &mut BytesOut,
 ) -> Result<Ended, AllocError> {
-    let mut solo = solo_of(alloc, requests_max)?;
-    let (answered, end) = serve(alloc, &mut solo, source, sink)?;
+    let Some(limits) = Limits::new(1, 10, 100, requests_max) else {
+        return Err(AllocError);
+    };
+    let mut solo = Solo::start(alloc, &limits)?;
+    if solo.journal().limits().requests_max()
+        > solo.journal().limits().journal_max() - solo.journal().len()
+    {
+        return Err(AllocError);
+    }
+    let (answered, end) = serve_solo(alloc, &mut solo, source, sink, &mut FixedClock(0));
+    let entries = solo.journal().len();
     let written = sink.bytes().to_vec(alloc)?;
     Ok(Ended {
         end,
         answered,
-        entries: solo.journal().len(),
+        entries,
         written,
     })
 }

@@ -1,23 +1,20 @@
 -- A text has a fault exactly where the statement of it on the bytes holds.
-use Rattle.std.proofs.Common.{◌≡◌, ℕ, zero, suc, ◌+◌, ◌-◌, ◌<◌, ◌≤◌, ◌⊎◌, inl, inr, Bool, true, false, not, ◌&&◌, ◌||◌, cond, eqb, ltb, nat_le, List, [], ◌∷◌, ◌++◌, length, get_or, take, Option, Some, None, option_map, bytes_eq, IsUtf8, refl, sym, ap, ◌∙◌, subst, ⊎_elim, length-append, arith}
+use Rattle.std.proofs.Common.{◌≡◌, ℕ, zero, suc, ◌+◌, ◌-◌, ◌<◌, ◌≤◌, ◌⊎◌, inl, inr, Bool, true, false, not, cond, eqb, ltb, nat_le, List, [], ◌∷◌, ◌++◌, length, get_or, take, Option, Some, None, option_map, IsUtf8, refl, sym, ap, ◌∙◌, subst, ⊎_elim, length-append, arith}
 use Rattle.std.specs.List.{list_all, join_with_byte, slice_split, position, position_or_len}
 use Rattle.std.specs.Str.{IsValidUpTo, is_utf8}
 use Rattle.std.specs.Str.Lossy.{utf8_valid_len, valid_len_up_to}
 use Rattle.std.proofs.lemmas.Bool.{false≢true, cases_Bool, eqb-true, eq-eqb}
 use Rattle.std.proofs.lemmas.Bool.Decides.{nat_tests}
 use Rattle.std.proofs.lemmas.List.{get_or-append-add, take_all}
-use Rattle.std.proofs.lemmas.List.Folds.{list_all-append}
 use Rattle.std.proofs.lemmas.List.Sums.{fails_before_first, passes_at_first, position_or_len_is}
 use Rattle.std.proofs.lemmas.List.Splits.{join_with_byte-slice_split, length-slice_split}
-use Rattle.std.proofs.lemmas.Slice.Eq.{bytes_eq-Decides}
 use Rattle.std.proofs.lemmas.Str.{IsUtf8-nil, IsUtf8-from_is_utf8, is_utf8-from_IsUtf8, utf8_valid_len_le, utf8_valid_len-IsUtf8, utf8_valid_len-IsValidUpTo}
 use Rattle.path_text.specs.declared.fault.PathFault.{PathFault}
 use Rattle.path_text.specs.declared.fault.PathFault.TheVariants.{BadEscape, NotUtf8, EmptyName, DotName, NameTooLong, PathTooLong, TooDeep, ControlByte, BadFsName}
-use Rattle.path_text.specs.Names.{are_parts, is_control, is_dots, is_fs_name, is_name, is_slash}
+use Rattle.path_text.specs.Names.{is_control, is_dots, is_fs_name, is_slash}
 use Rattle.path_text.specs.Texts.{BeginsWithSlash, inner, or_else, part_fault, parts_fault, size_fault, split_parts, text_fault, without_end}
 use Rattle.path_text.specs.Faults.{AreSplit, IsBetween, IsFaultOfParts, IsFirst, IsFirstPartFault, IsPartFault, IsPathFault, IsPlainText, IsShortText}
 use Rattle.path_text.proofs.PlaceLemmas.{chosen_some}
-use Rattle.path_text.proofs.PlaceLemmas.{both_parts}
 use Rattle.path_text.proofs.ReadLemmas.{inner_of_ended, not_zero, nowhere, parts_are_fine}
 use Rattle.path_text.proofs.GrammarLemmas.{ends_in_slash, found_nowhere, parts_are_texts, parts_where_fine, utf8_where_valid}
 use Rattle.path_text.proofs.NameLemmas.{AreTexts, dots_are_short, texts_front}

@@ -1,5 +1,5 @@
 -- A text that is read as a path is the text of that path, and the path keeps the limits.
-use Rattle.std.proofs.Common.{◌≡◌, ℕ, zero, suc, ◌+◌, ◌-◌, ◌<◌, ◌≤◌, ◌⊎◌, inl, inr, Bool, true, false, not, cond, eqb, ltb, nat_le, List, [], ◌∷◌, ◌++◌, length, get_or, take, Option, Some, None, option_map, Ok, IsUtf8, lit<, refl, sym, ap, ◌∙◌, subst, ⊎_elim, arith}
+use Rattle.std.proofs.Common.{◌≡◌, ℕ, zero, suc, ◌+◌, ◌-◌, ◌<◌, ◌≤◌, ◌⊎◌, inl, inr, Bool, true, false, not, cond, eqb, ltb, nat_le, List, [], ◌∷◌, ◌++◌, length, get_or, take, Option, Some, None, option_map, Ok, IsUtf8, refl, sym, ap, ◌∙◌, subst, ⊎_elim, arith}
 use Rattle.std.specs.List.{list_all, join_with_byte, slice_split, position, prefix_len}
 use Rattle.std.specs.Str.{is_utf8}
 use Rattle.std.specs.Str.Lossy.{utf8_valid_len, valid_len_up_to}
@@ -8,12 +8,11 @@ use Rattle.std.proofs.lemmas.Bool.Decides.{nat_tests}
 use Rattle.std.proofs.lemmas.List.{take_all, take_more}
 use Rattle.std.proofs.lemmas.List.Folds.{list_all-append}
 use Rattle.std.proofs.lemmas.List.Splits.{join_with_byte-slice_split}
-use Rattle.std.proofs.lemmas.Str.{IsUtf8-nil, IsUtf8-from_is_utf8, IsUtf8-take, IsUtf8-encode, encode_ascii, IsCharBoundary-at_seam}
-use Rattle.std.proofs.Math.Seq.{take-append_seam}
+use Rattle.std.proofs.lemmas.Str.{IsUtf8-nil, IsUtf8-from_is_utf8}
 use Rattle.path_text.specs.declared.fault.PathFault.{PathFault}
 use Rattle.path_text.specs.declared.fault.PathFault.TheVariants.{BadFsName, ControlByte, DotName, EmptyName, NameTooLong, PathTooLong, TooDeep}
 use Rattle.path_text.specs.Names.{are_parts, is_control, is_dots, is_fs_name, is_name, is_slash}
-use Rattle.path_text.specs.Texts.{is_byte, path_text, KeepsLimits, Spells, inner, split_parts, part_fault, parts_fault, or_else, utf8_fault, size_fault, text_fault, plain_path, path_or_fault}
+use Rattle.path_text.specs.Texts.{path_text, KeepsLimits, Spells, inner, split_parts, part_fault, parts_fault, or_else, utf8_fault, size_fault, text_fault, plain_path, path_or_fault}
 use Rattle.path_text.proofs.PlaceLemmas.{both_parts}
 use Rattle.path_text.proofs.NameLemmas.{AreTexts, before_slash, behind_slash, joined_texts, name_from}
 use Rattle.path_text.proofs.PlaceLemmas.{place_is_end}

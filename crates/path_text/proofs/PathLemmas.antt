@@ -1,6 +1,5 @@
 -- The parent and the last name of a path.
-use Rattle.std.proofs.Common.{◌≡◌, ℕ, suc, ◌+◌, ◌-◌, List, [], ◌∷◌, ◌++◌, length, take, slice_get, Option, Some, None, IfSome, Bor, refl, sym, ap, subst, ◌∙◌, arith}
-use Rattle.std.specs.Option.{option_copied}
+use Rattle.std.proofs.Common.{◌≡◌, ℕ, suc, ◌-◌, List, [], ◌∷◌, ◌++◌, length, take, slice_get, Some, refl, sym, ap, ◌∙◌, arith}
 use Rattle.path_text.specs.Paths.{parent}
 
 pub taken_is_parent : (path : List (List ℕ)) → take (length path - 1) path ≡ parent path
@@ -17,6 +16,5 @@ ends_in (first ∷ next ∷ names) name e =
     let place : suc (length (next ∷ names) - 1) ≡ length (first ∷ next ∷ names) - 1 = omega arith in
     ap (λ l. first ∷ l) (ends_in (next ∷ names) name (ap (slice_get (first ∷ next ∷ names)) place ∙ e))
 
-pub last_is : (path : List (List ℕ)) (found : Option (Bor (List ℕ))) (depth : ℕ) → depth ≡ length path → option_copied found ≡ slice_get path (depth - 1) → IfSome found (λ name. path ≡ parent path ++ name.now ∷ [])
-last_is path None depth long e = tt
-last_is path (Some name) depth long e = ends_in path name.now (ap (λ n. slice_get path (n - 1)) (sym long) ∙ sym e)
+pub last_is : (path : List (List ℕ)) (name : List ℕ) (depth : ℕ) → depth ≡ length path → slice_get path (depth - 1) ≡ Some name → path ≡ parent path ++ name ∷ []
+last_is path name depth long e = ends_in path name (ap (λ n. slice_get path (n - 1)) (sym long) ∙ e)

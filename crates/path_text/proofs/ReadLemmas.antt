@@ -10,7 +10,7 @@ use Rattle.std.proofs.lemmas.List.Splits.{slice_split_none, slice_split_at}
 use Rattle.std.proofs.lemmas.Str.{utf8_valid_len-IsUtf8, IsUtf8-append, IsUtf8-encode, encode_ascii}
 use Rattle.std.proofs.lemmas.List.Folds.{list_all-append}
 use Rattle.std.proofs.Math.Seq.{take-append_seam}
-use Rattle.path_text.specs.Names.{are_parts, has_single_hyphens, is_control, is_dots, is_fs_byte, is_fs_name, is_name, is_slash}
+use Rattle.path_text.specs.Names.{are_parts, is_control, is_fs_name, is_name, is_slash}
 use Rattle.path_text.specs.Texts.{path_text, KeepsLimits, Spells, inner, split_parts, part_fault, parts_fault, size_fault, text_fault, plain_path}
 use Rattle.path_text.proofs.PlaceLemmas.{both_parts}
 use Rattle.path_text.proofs.NameLemmas.{fs_is_named, named, path_control, path_utf8}

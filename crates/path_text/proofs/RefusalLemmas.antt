@@ -1,15 +1,14 @@
 -- A target is refused exactly where the statement of the refusal on its bytes holds.
-use Rattle.std.proofs.Common.{◌≡◌, ◌≢◌, ℕ, ◌⊎◌, inl, inr, Bool, true, false, cond, List, [], ◌∷◌, get_or, Option, Some, None, is_some, Result, Ok, Err, IfOk, IfErr, refl, sym, ap, ◌∙◌, subst, ⊎_elim}
-use Rattle.std.specs.List.{list_all}
-use Rattle.std.proofs.lemmas.Bool.{false≢true, cases_Bool}
+use Rattle.std.proofs.Common.{◌≡◌, ◌≢◌, ℕ, inl, inr, Bool, true, false, cond, List, get_or, Option, Some, None, is_some, Result, Ok, Err, IfOk, IfErr, refl, sym, ap, ◌∙◌, subst, ⊎_elim}
+use Rattle.std.proofs.lemmas.Bool.{false≢true}
 use Rattle.percent_encoding.specs.Percent.{percent_decode}
 use Rattle.path_text.specs.declared.fault.PathFault.{PathFault}
 use Rattle.path_text.specs.declared.fault.PathFault.TheVariants.{BadEscape, NotUtf8, EmptyName, DotName, NameTooLong, PathTooLong, TooDeep, ControlByte, BadFsName}
 use Rattle.path_text.specs.declared.fault.TargetStop.{TargetStop}
 use Rattle.path_text.specs.declared.fault.TargetStop.TheVariants.{Fault, BadQuery, NoMemory}
 use Rattle.path_text.specs.Names.{is_slash}
-use Rattle.path_text.specs.Texts.{BeginsWithSlash, inner, is_byte, path_or_fault, plain_path, split_parts, text_fault}
-use Rattle.path_text.specs.Targets.{HasNoBadEscape, bad_escape, has_bad_query, path_piece, query_pairs, query_piece, target_parts, target_path, unless_escape_is_bad, with_query}
+use Rattle.path_text.specs.Texts.{BeginsWithSlash, inner, path_or_fault, plain_path, split_parts, text_fault}
+use Rattle.path_text.specs.Targets.{HasNoBadEscape, bad_escape, path_piece, query_pairs, query_piece, target_parts, target_path, unless_escape_is_bad, with_query}
 use Rattle.path_text.specs.Faults.{Answers, IsFaultOfDecoded, IsPathFault, IsTargetFault, IsTargetRefused}
 use Rattle.path_text.proofs.LawLemmas.{first_bad_escape}
 use Rattle.path_text.proofs.FaultLemmas.{begins, fault_of_text, no_slash_of, slash_of, text_of_fault}

@@ -1,22 +1,14 @@
 -- A target is read exactly where it spells a path and a query.
-use Rattle.std.proofs.Common.{◌≡◌, ℕ, Bool, true, false, cond, List, [], ◌∷◌, get_or, take, drop, Option, Some, None, Result, Ok, Err, All, refl, sym, ap, subst, ◌∙◌, arith}
-use Rattle.std.specs.List.{list_all, position_or_len}
-use Rattle.std.proofs.lemmas.Bool.Decides.{nat_tests}
-use Rattle.std.proofs.lemmas.List.{take-append-drop}
-use Rattle.std.proofs.lemmas.List.Elements.{All-cons}
-use Rattle.std.proofs.lemmas.List.Folds.{list_all-append}
+use Rattle.std.proofs.Common.{◌≡◌, ℕ, Bool, true, false, cond, List, [], get_or, Option, Some, None, Result, Ok, Err, refl, sym, ap, subst, ◌∙◌}
 use Rattle.percent_encoding.specs.Percent.{percent_decode}
-use Rattle.percent_encoding.proofs.PercentLemmas.{IsByte, All-percent_decode}
 use Rattle.path_text.specs.declared.fault.TargetStop.{TargetStop}
 use Rattle.path_text.specs.declared.fault.TargetStop.TheVariants.{Fault, BadQuery}
 use Rattle.path_text.specs.declared.fault.PathFault.TheVariants.{EmptyName}
 use Rattle.path_text.specs.Names.{is_slash}
-use Rattle.path_text.specs.Texts.{is_byte, plain_path}
-use Rattle.path_text.specs.Targets.{SpellsQueryPart, SpellsTarget, SpellsTargetPath, bad_escape, has_bad_query, is_question_mark, path_piece, query_piece, query_pairs, target_parts, target_path, unless_escape_is_bad, with_query}
-use Rattle.path_text.proofs.PlaceLemmas.{both_parts}
+use Rattle.path_text.specs.Texts.{plain_path}
+use Rattle.path_text.specs.Targets.{SpellsQueryPart, SpellsTarget, SpellsTargetPath, bad_escape, has_bad_query, path_piece, query_piece, query_pairs, target_parts, target_path, unless_escape_is_bad, with_query}
 use Rattle.path_text.proofs.GrammarLemmas.{path_is_spelled}
 use Rattle.path_text.proofs.ReadLemmas.{spelled_is_read}
-use Rattle.path_text.proofs.TokenLemmas.{all_bytes}
 use Rattle.path_text.proofs.FaultLemmas.{begins, slash_of}
 use Rattle.path_text.proofs.QueryLemmas.{no_bad, none_bad, query_part_is, query_part_spelled}
 

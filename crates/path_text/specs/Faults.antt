@@ -1,5 +1,5 @@
 -- When each fault of a path comes, on the bytes, and which goes before which.
-use Rattle.std.specs.Prelude.{ℕ, ◌+◌, ◌<◌, ◌≤◌, ◌≡◌, ◌⊎◌, Bool, true, false, not, List, [], ◌∷◌, ◌++◌, length, slice_index, Some, Result, Err}
+use Rattle.std.specs.Prelude.{ℕ, ◌<◌, ◌≤◌, ◌≡◌, ◌⊎◌, Bool, true, false, not, List, [], ◌∷◌, ◌++◌, length, slice_index, Some, Result, Err}
 use Rattle.std.specs.List.{list_all, join_with_byte}
 use Rattle.std.specs.Str.{IsUtf8, IsValidUpTo}
 use Rattle.percent_encoding.specs.Percent.{percent_decode}

@@ -36,7 +36,7 @@ impl Model for Path {
 
 impl Path {
     ghost use Rattle.std.specs.Option.{option_copied};
-    ghost use Rattle.std.specs.Prelude.{◌≡◌, ◌≢◌, ◌↔◌, [], ◌∷◌, ◌++◌, ◌<◌, ◌≤◌, true, length, take, drop, slice_get, vec_len, IfOk, IfSome, IsNone, IsTrue};
+    ghost use Rattle.std.specs.Prelude.{◌≡◌, ◌≢◌, ◌↔◌, [], ◌∷◌, ◌++◌, ◌<◌, ◌≤◌, true, length, take, drop, slice_get, vec_len, Some, IfOk, IfSome, IsNone, IsTrue};
     ghost use Rattle.path_text.specs.Names.{are_parts, is_fs_name};
     ghost use Rattle.path_text.specs.Parts.{parts_left};
     ghost use Rattle.path_text.specs.Paths.{path_cmp, is_prefix, parent};
@@ -114,19 +114,20 @@ impl Path {
         }
     }
 
-    /// The part at a place, counted from 0 with the filesystem; `None` exactly behind the last one. It takes no memory.
-    pub fn part(&self, place: usize) -> Option<&Name>
-        ensures { option_copied result ≡ slice_get self.now place }
+    /// The part at a place, counted from 0 with the filesystem. It takes no memory.
+    pub fn part(&self, place: usize) -> &Name
+        requires within { place < length self.now }
+        ensures { slice_get self.now place ≡ Some result.now }
     {
         match &self.place {
             Some(parts) => {
                 if place == 0 {
-                    Some(parts.fs.name())
+                    parts.fs.name()
                 } else {
-                    parts.names.as_slice().get(place - 1)
+                    &parts.names.as_slice()[place - 1]
                 }
             }
-            None => None,
+            None => unreachable!(),
         }
     }
 
@@ -139,7 +140,7 @@ impl Path {
         if depth == 0 {
             return None;
         }
-        self.part(depth - 1)
+        Some(self.part(depth - 1))
     }
 
     /// The path without its last name. The one error is want of memory.

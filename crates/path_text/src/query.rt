@@ -6,7 +6,7 @@ use std::alloc::{AllocError, Global};
 use std::marker::Model;
 
 /// A key and its value in a query, both decoded. A contract sees the pair of their bytes.
-#[derive(Drop)]
+#[derive(Debug, Drop)]
 pub struct Pair {
     key: Vec<u8>,
     value: Vec<u8>,
@@ -52,7 +52,7 @@ impl Pair {
 }
 
 /// The query of a target. A contract sees the list of its pairs.
-#[derive(Drop)]
+#[derive(Debug, Drop)]
 pub struct Query {
     pairs: Vec<Pair>,
 }

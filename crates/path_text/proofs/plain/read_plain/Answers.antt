@@ -1,6 +1,5 @@
-use Rattle.std.proofs.Common.{◌≡◌, ◌≢◌, ℕ, List, true, Ok, Err, IfOk, sym, ap, subst, ◌∙◌, arith}
-use Rattle.std.specs.List.{list_all}
-use Rattle.path_text.specs.declared.fault.TargetStop.TheVariants.{Fault, NoMemory}
+use Rattle.std.proofs.Common.{subst}
+use Rattle.path_text.specs.declared.fault.TargetStop.TheVariants.{Fault}
 use Rattle.path_text.specs.Faults.{Answers}
 use Rattle.path_text.specs.Texts.{plain_path}
 use Rattle.path_text.proofs.GrammarLemmas.{path_is_spelled}

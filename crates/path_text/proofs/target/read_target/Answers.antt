@@ -1,5 +1,4 @@
-use Rattle.std.proofs.Common.{◌≡◌, ◌≢◌, ℕ, List, true, Ok, Err, IfOk, subst, ◌∙◌, arith}
-use Rattle.std.specs.List.{list_all}
+use Rattle.std.proofs.Common.{subst}
 use Rattle.path_text.specs.Faults.{Answers}
 use Rattle.path_text.specs.Targets.{target_parts}
 use Rattle.path_text.proofs.RefusalLemmas.{answers_of, ok_as, refused_where, stopped_by, where_refused}

@@ -1,4 +1,4 @@
-use Rattle.std.proofs.Common.{◌-◌, take}
+use Rattle.std.proofs.Common.{◌-◌}
 use Rattle.path_text.proofs.NameLemmas.{front_parts}
 use Rattle.path_text.proofs.path.Path.front.Goals as goal
 

@@ -1,101 +1,28 @@
 -- What a new node takes from its parent.
-use Rattle.std.proofs.Common.{◌≡◌, ℕ, Bool, true, false, cond, List, [], ◌∷◌, Option, Some, None, is_some, unwrap_or, Result, Ok, Err, lit≤, refl, sym, ap, subst, ◌∙◌}
-use Rattle.std.specs.Prelude.{bit_and, codes, IfOk, IfSome}
+use Rattle.std.proofs.Common.{◌≡◌, ℕ, Bool, true, false, cond, List, [], ◌∷◌, Option, Some, None, is_some, unwrap_or, refl, sym, ap, subst, ◌∙◌}
+use Rattle.std.specs.Prelude.{bit_and, IfSome}
 use Rattle.std.specs.Ordering.{eq_by_cmp, is_eq}
 use Rattle.std.specs.declared.cmp.Ordering.TheVariants.{Less, Equal, Greater}
 use Rattle.std.specs.FinMap as fin
-use Rattle.std.specs.FinMap.{find, put}
+use Rattle.std.specs.FinMap.{find}
 use Rattle.std.proofs.lemmas.Bool.{false≢true}
 use Rattle.std.proofs.lemmas.Cmp.{tied_itself}
-use Rattle.acl_text.specs.declared.acl.AclFault.{AclFault}
 use Rattle.acl_text.specs.declared.acl.AclPair.{AclPair}
 use Rattle.acl_text.specs.declared.perm.ModeBits.{ModeBits}
 use Rattle.acl_text.specs.declared.who.Who.{Who}
 use Rattle.acl_text.specs.declared.who.Who.TheVariants.{Owner, User, OwningGroup, Group, Mask, Other}
 use Rattle.acl_text.specs.Acls.{IsAcl}
-use Rattle.acl_text.specs.AclChanges.{acl_set, acl_with_mode, group_holder, mode_set}
-use Rattle.acl_text.specs.AclLaws.{IsAclPair}
+use Rattle.acl_text.specs.AclChanges.{group_holder, mode_set}
 use Rattle.acl_text.specs.AclMaps.{AclMap, map_of}
 use Rattle.acl_text.specs.AclWriting.{access_bits}
-use Rattle.acl_text.specs.AclTexts.{acl_list_of, entry_of, who_of, who_and_perm_of, values_of}
-use Rattle.acl_text.specs.PermTexts.{AreBits, perm_of}
+use Rattle.acl_text.specs.PermTexts.{AreBits}
 use Rattle.acl_text.specs.Whos.{who_cmp}
 use Rattle.acl_text.proofs.EntryLemmas.{in_order}
-use Rattle.acl_text.proofs.LawLemmas.{set_own}
 use Rattle.acl_text.proofs.WhoLemmas.{who_cmp_total}
 use Rattle.namespace_model.specs.declared.op.Kind.{Kind}
 use Rattle.namespace_model.specs.Access.{acl_inherit, bits_of, cut_down, cut_to_mode, inherited_from, usual_mode, usual_umask}
 use Rattle.acl_check.specs.AccessLaws.{HasAll, IsBaseOf, IsWithinMode}
 use Rattle.acl_check.proofs.Bits.{both_bits, open_is}
-
--- ---- the three base entries
-
-abbrev pub bare_entries : List (Who × ℕ)
-bare_entries = (Owner, 0) ∷ (OwningGroup, 0) ∷ (Other, 0) ∷ []
-
-abbrev pub bare_pair : AclPair
-bare_pair = record { access = bare_entries; default = None }
-
-pub bare_text : acl_list_of (codes "user::---,group::---,other::---") ≡ Ok ((false, Owner, 0) ∷ (false, OwningGroup, 0) ∷ (false, Other, 0) ∷ [])
-unfolding entry_of who_of who_and_perm_of values_of perm_of
-bare_text = refl
-
-bare_is : IsAclPair bare_pair
-bare_is = (
-  record {
-    in_order = refl;
-    owner = refl;
-    owning_group = refl;
-    other = refl;
-    mask = λ named. absurd (false≢true named);
-    few = lit≤ tt;
-  },
-  tt,
-)
-
-pub bare_set : acl_set ((false, Owner, 0) ∷ (false, OwningGroup, 0) ∷ (false, Other, 0) ∷ []) ≡ Ok bare_pair
-bare_set = set_own bare_pair bare_is
-
-bare_holder : group_holder (map_of bare_entries) ≡ OwningGroup
-bare_holder = ap (λ o. cond (is_some o) Mask OwningGroup) (fin.get-from_sorted who_cmp bare_entries Mask tt)
-
--- to set a mode on them gives the entries of the mode
-pub bare_mode : (bits : ModeBits) → fin.entries (mode_set bits (map_of bare_entries)) ≡ (Owner, bits.owner) ∷ (OwningGroup, bits.group) ∷ (Other, bits.other) ∷ []
-bare_mode bits =
-    let m = map_of bare_entries in
-    let owner = fin.insert m Owner bits.owner in
-    let group = fin.insert owner (group_holder m) bits.group in
-    fin.entries-insert who_cmp_total group Other bits.other
-    ∙ ap (put who_cmp Other bits.other) (fin.entries-insert who_cmp_total owner (group_holder m) bits.group)
-    ∙ ap (λ w. put who_cmp Other bits.other (put who_cmp w bits.group (fin.entries owner))) bare_holder
-    ∙ ap (λ es. put who_cmp Other bits.other (put who_cmp OwningGroup bits.group es)) (fin.entries-insert who_cmp_total m Owner bits.owner)
-    ∙ ap (λ es. put who_cmp Other bits.other (put who_cmp OwningGroup bits.group (put who_cmp Owner bits.owner es))) (fin.entries-from_sorted who_cmp bare_entries tt)
-
-abbrev pub bare_list : List (Bool × Who × ℕ)
-bare_list = (false, Owner, 0) ∷ (false, OwningGroup, 0) ∷ (false, Other, 0) ∷ []
-
--- so the text is read as them, and the list is set
-pub bare_read : (text : List ℕ) (list : List (Bool × Who × ℕ)) → text ≡ codes "user::---,group::---,other::---" → acl_list_of text ≡ Ok list → list ≡ bare_list
-bare_read text list is read = let same : ◌≡◌ {A = Result (List (Bool × Who × ℕ)) AclFault} (Ok list) (Ok bare_list) = sym read ∙ ap acl_list_of is ∙ bare_text in cc
-
-pub bare_unrefused : (text : List ℕ) (fault : AclFault) → text ≡ codes "user::---,group::---,other::---" → acl_list_of text ≡ Err fault → ⊥
-bare_unrefused text fault is read = let same : ◌≡◌ {A = Result (List (Bool × Who × ℕ)) AclFault} (Err fault) (Ok bare_list) = sym read ∙ ap acl_list_of is ∙ bare_text in cc
-
-pub bare_made : (list : List (Bool × Who × ℕ)) (pair : AclPair) → list ≡ bare_list → acl_set list ≡ Ok pair → pair ≡ bare_pair
-bare_made list pair is made = let same : ◌≡◌ {A = Result AclPair AclFault} (Ok pair) (Ok bare_pair) = sym made ∙ ap acl_set is ∙ bare_set in cc
-
-pub bare_unfaulted : (list : List (Bool × Who × ℕ)) (fault : AclFault) → list ≡ bare_list → acl_set list ≡ Err fault → ⊥
-bare_unfaulted list fault is made = let same : ◌≡◌ {A = Result AclPair AclFault} (Err fault) (Ok bare_pair) = sym made ∙ ap acl_set is ∙ bare_set in cc
-
-abbrev pub base_pair : ModeBits → AclPair
-base_pair mode = record { access = (Owner, mode.owner) ∷ (OwningGroup, mode.group) ∷ (Other, mode.other) ∷ []; default = None }
-
-pub base_made : {E : Type 0} (r : Result AclPair E) (bare : AclPair) (mode : ModeBits) → bare ≡ bare_pair
-    → IfOk r (λ pair. pair ≡ acl_with_mode bare mode) → IfOk r (λ pair. pair ≡ base_pair mode)
-base_made (Ok pair) bare mode is made =
-    let set : acl_with_mode bare_pair mode ≡ base_pair mode = λ i. record { access = bare_mode mode i; default = None } in
-    made ∙ ap (λ b. acl_with_mode b mode) is ∙ set
-base_made (Err e) bare mode is made = tt
 
 -- ---- a list cut down to a mode
 
@@ -128,7 +55,7 @@ cut_map m p bits owner group other =
 get_listed : (acl : List (Who × ℕ)) (w : Who) → IsAcl acl → fin.get (map_of acl) w ≡ find who_cmp w acl
 get_listed acl w is = fin.get-from_sorted who_cmp acl w (in_order _ is.in_order)
 
-cut_list : (acl : List (Who × ℕ)) (p bits : ModeBits) → IsAcl acl → bits.owner ≡ bit_and (bits_of acl Owner) p.owner
+pub cut_list : (acl : List (Who × ℕ)) (p bits : ModeBits) → IsAcl acl → bits.owner ≡ bit_and (bits_of acl Owner) p.owner
     → bits.group ≡ bit_and (unwrap_or (find who_cmp (group_holder (map_of acl)) acl) 0) p.group → bits.other ≡ bit_and (bits_of acl Other) p.other
     → fin.entries (mode_set bits (map_of acl)) ≡ fin.entries (cut_to_mode (map_of acl) p)
 cut_list acl p bits is owner group other =
@@ -136,14 +63,6 @@ cut_list acl p bits is owner group other =
     (owner ∙ ap (λ o. cut o p.owner) (sym (get_listed acl Owner is)))
     (group ∙ ap (λ o. cut o p.group) (sym (get_listed acl (group_holder (map_of acl)) is)))
     (other ∙ ap (λ o. cut o p.other) (sym (get_listed acl Other is))))
-
--- so a mode that is set on a copy of a list cuts it down
-pub cut_made : (acl copied : List (Who × ℕ)) (p bits : ModeBits) (made : AclPair) → IsAcl acl → copied ≡ acl
-    → made ≡ acl_with_mode (record { access = copied; default = None }) bits → bits.owner ≡ bit_and (bits_of acl Owner) p.owner
-    → bits.group ≡ bit_and (unwrap_or (find who_cmp (group_holder (map_of acl)) acl) 0) p.group → bits.other ≡ bit_and (bits_of acl Other) p.other
-    → made.access ≡ fin.entries (cut_to_mode (map_of acl) p)
-cut_made acl copied p bits made is same set owner group other =
-    ap (λ (pair : AclPair). pair.access) set ∙ ap (λ es. fin.entries (mode_set bits (map_of es))) same ∙ cut_list acl p bits is owner group other
 
 pub holder_masked : (acl : List (Who × ℕ)) (mask : ℕ) → IsAcl acl → find who_cmp Mask acl ≡ Some mask → unwrap_or (find who_cmp (group_holder (map_of acl)) acl) 0 ≡ mask
 holder_masked acl mask is given =
@@ -153,6 +72,14 @@ pub holder_unmasked : (acl : List (Who × ℕ)) → IsAcl acl → find who_cmp M
     → unwrap_or (find who_cmp (group_holder (map_of acl)) acl) 0 ≡ bits_of acl OwningGroup
 holder_unmasked acl is none =
     ap (λ o. unwrap_or (find who_cmp (cond (is_some o) Mask OwningGroup) acl) 0) (get_listed acl Mask is ∙ none)
+
+-- what a list shows of its group is what the mask gives, or else the owning group
+pub shown_group : (acl : List (Who × ℕ)) → IsAcl acl → unwrap_or (find who_cmp Mask acl) (bits_of acl OwningGroup) ≡ unwrap_or (find who_cmp (group_holder (map_of acl)) acl) 0
+shown_group acl is =
+    elim (find who_cmp Mask acl) as (λ o. find who_cmp Mask acl ≡ o → unwrap_or o (bits_of acl OwningGroup) ≡ unwrap_or (find who_cmp (group_holder (map_of acl)) acl) 0) [
+      | Some mask ↦ λ given. sym (holder_masked acl mask is given)
+      | None ↦ λ none. sym (holder_unmasked acl is none)
+    ] refl
 
 -- ---- the laws
 

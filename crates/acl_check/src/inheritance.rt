@@ -1,15 +1,10 @@
-ghost use Rattle.std.specs.Prelude.{◌≡◌, false, [], ◌∷◌, IfOk, unwrap_or};
+ghost use Rattle.std.specs.Prelude.{◌≡◌, IfOk};
 ghost use Rattle.std.specs.Option.{option_copied};
 ghost use Rattle.std.specs.FinMap as fin;
-ghost use Rattle.std.specs.FinMap.{find};
-ghost use Rattle.acl_text.specs.AclChanges.{group_holder};
 ghost use Rattle.acl_text.specs.AclMaps.{map_of};
-ghost use Rattle.acl_text.specs.Acls.{IsAcl};
-ghost use Rattle.acl_text.specs.Whos.{who_cmp};
 ghost use Rattle.namespace_model.specs.Access.{acl_inherit, cut_to_mode, inherited_from, open_bits, passed_on, usual_mode, usual_umask};
 
-use crate::permission::{bits_of, both, entry_of, perm};
-use acl_text::{Acl, AclList, AclPair, AclStop, ModeBits, Perm, Who, read_acl, set, with_mode};
+use acl_text::{Acl, AclPair, ModeBits, Perm};
 use namespace_model::Kind;
 use std::alloc::{AllocError, Global};
 
@@ -18,8 +13,8 @@ fn usual_mode(kind: Kind) -> ModeBits
     ensures { result ≡ usual_mode kind }
 {
     let bits = match kind {
-        Kind::Directory => perm(7),
-        Kind::File => perm(6),
+        Kind::Directory => Perm::ALL,
+        Kind::File => Perm::READ_WRITE,
     };
     ModeBits {
         sticky: false,
@@ -35,9 +30,9 @@ fn usual_umask() -> ModeBits
 {
     ModeBits {
         sticky: false,
-        owner: perm(0),
-        group: perm(2),
-        other: perm(7),
+        owner: Perm::NONE,
+        group: Perm::WRITE,
+        other: Perm::ALL,
     }
 }
 
@@ -45,7 +40,7 @@ fn usual_umask() -> ModeBits
 fn open_bits(bits: Perm, umask: Perm) -> Perm
     ensures { result ≡ open_bits bits umask }
 {
-    both(bits, perm(7 - umask.bits()))
+    bits.and(Perm::of(7 - umask.bits()))
 }
 
 // The bits of a mode that a umask leaves open.
@@ -62,62 +57,18 @@ fn open_mode(mode: &ModeBits, umask: &ModeBits) -> ModeBits
     }
 }
 
-// The three base entries, without permissions.
-fn bare_list(alloc: Global) -> Result<AclList, AllocError>
-    ensures { IfOk result (λ list. list ≡ (false, Who.Owner, 0) ∷ (false, Who.OwningGroup, 0) ∷ (false, Who.Other, 0) ∷ []) }
-{
-    match read_acl(alloc, b"user::---,group::---,other::---".as_slice()) {
-        Ok(list) => Ok(list),
-        Err(AclStop::NoMemory) => Err(AllocError),
-        Err(AclStop::Fault(_)) => unreachable!(),
-    }
-}
-
-// An access list of the three base entries, without permissions, and no default list.
-fn bare_pair(alloc: Global) -> Result<AclPair, AllocError>
-    ensures { IfOk result (λ pair. pair ≡ record { access = (Who.Owner, 0) ∷ (Who.OwningGroup, 0) ∷ (Who.Other, 0) ∷ []; default = None }) }
-{
-    match set(alloc, &bare_list(alloc)?) {
-        Ok(pair) => Ok(pair),
-        Err(AclStop::NoMemory) => Err(AllocError),
-        Err(AclStop::Fault(_)) => unreachable!(),
-    }
-}
-
-/// An access list of the three base entries of a mode, and no default list. The one error is want of memory.
-pub fn base_pair(alloc: Global, mode: &ModeBits) -> Result<AclPair, AllocError>
-    ensures { IfOk result (λ pair. pair ≡ record { access = (Who.Owner, mode.now.owner) ∷ (Who.OwningGroup, mode.now.group) ∷ (Who.Other, mode.now.other) ∷ []; default = None }) }
-{
-    with_mode(alloc, &bare_pair(alloc)?, mode)
-}
-
-// What the mask of a list gives, or else its owning group.
-fn group_bits(acl: &Acl) -> Perm
-    ensures bits { result ≡ unwrap_or (find who_cmp (group_holder (map_of acl.now)) acl.now) 0 }
-    ensures acl { IsAcl acl.now }
-{
-    match entry_of(acl.entries(), &Who::Mask) {
-        Some(mask) => mask,
-        None => bits_of(acl, &Who::OwningGroup),
-    }
-}
-
 // A default list with the owner, the mask or else the owning group, and the others cut down to a mode.
 fn cut_to_mode(alloc: Global, acl: &Acl, mode: &ModeBits) -> Result<Acl, AllocError>
     ensures { IfOk result (λ cut. cut ≡ fin.entries (cut_to_mode (map_of acl.now) mode.now)) }
 {
+    let shown = acl.mode(mode.sticky);
     let bits = ModeBits {
         sticky: mode.sticky,
-        owner: both(bits_of(acl, &Who::Owner), mode.owner),
-        group: both(group_bits(acl), mode.group),
-        other: both(bits_of(acl, &Who::Other), mode.other),
+        owner: shown.owner.and(mode.owner),
+        group: shown.group.and(mode.group),
+        other: shown.other.and(mode.other),
     };
-    let pair = AclPair {
-        access: acl.copy(alloc)?,
-        default: None,
-    };
-    let AclPair { access, default: _ } = with_mode(alloc, &pair, &bits)?;
-    Ok(access)
+    acl.with_mode(alloc, &bits)
 }
 
 // The default list of a new node below one with this default list.
@@ -144,7 +95,7 @@ fn inherited_from(
             access: cut_to_mode(alloc, acl, mode)?,
             default: passed_on(alloc, kind, acl)?,
         }),
-        None => base_pair(alloc, &open_mode(mode, umask)),
+        None => AclPair::of_mode(alloc, &open_mode(mode, umask)),
     }
 }
 

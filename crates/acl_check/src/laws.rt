@@ -1,9 +1,9 @@
 //! What the check and the inheritance keep, in plain words. Each law is the contract of a function that does nothing, and speaks of
 //! every list, id and caller.
 
-ghost use Rattle.std.specs.Prelude.{◌≡◌, ◌⊎◌, ◌↔◌, ◌<◌, ℕ, false, List, Option, Some, None, IfSome};
+ghost use Rattle.std.specs.Prelude.{◌≡◌, ◌⊎◌, ◌↔◌, ◌<◌, ℕ, false, true, codes, Contains, List, Option, Some, None, IfSome, IsTrue};
 ghost use Rattle.std.specs.FinMap.{find};
-ghost use Rattle.acl_text.specs.AclWriting.{access_bits};
+ghost use Rattle.acl_text.specs.AclWriting.{access_bits, permissions_text};
 ghost use Rattle.acl_text.specs.Acls.{IsAcl};
 ghost use Rattle.acl_text.specs.Ids.{superuser};
 ghost use Rattle.acl_text.specs.PermTexts.{AreBits};
@@ -12,7 +12,7 @@ ghost use Rattle.acl_text.specs.declared.acl.AclPair.{AclPair};
 ghost use Rattle.acl_text.specs.declared.perm.ModeBits.{ModeBits};
 ghost use Rattle.acl_text.specs.declared.who.Who.{Who};
 ghost use Rattle.acl_text.specs.declared.who.Who.TheVariants as who;
-ghost use Rattle.namespace_model.specs.Access.{access_check, acl_inherit, bits_of, masked_by};
+ghost use Rattle.namespace_model.specs.Access.{access_check, acl_inherit, bits_of, masked_by, may_set_access, may_set_group, may_set_owner, sticky_lets};
 ghost use Rattle.namespace_model.specs.declared.caller.Caller.{Caller};
 ghost use Rattle.namespace_model.specs.declared.denied.Refusal.{Refusal};
 ghost use Rattle.namespace_model.specs.declared.denied.Rule.TheVariants as rule;
@@ -113,4 +113,35 @@ pub fn the_sticky_bit_comes_from_the_mode()
         (acl_inherit parent kind (Some mode) umask).1 ≡ mode.sticky }
     ensures usual { (parent : AclPair) (kind : Kind) (umask : Option ModeBits) →
         (acl_inherit parent kind None umask).1 ≡ false }
+{}
+
+/// In a sticky directory the superuser, the child's owner and the directory's owner delete, rename and overwrite a child, and nobody
+/// else; where the bit is not set, it stops nobody.
+pub fn a_sticky_directory_guards_its_children()
+    ensures sticky { (dir_owner child_owner : List ℕ) (caller : Caller) →
+        (IsTrue (sticky_lets true dir_owner child_owner caller)
+        ↔ ((caller.id ≡ superuser) ⊎ ((caller.id ≡ child_owner) ⊎ (caller.id ≡ dir_owner)))) }
+    ensures plain { (dir_owner child_owner : List ℕ) (caller : Caller) →
+        IsTrue (sticky_lets false dir_owner child_owner caller) }
+{}
+
+/// Lists are set by the superuser and the owner alone. Another owner than the present one is named by the superuser alone; another
+/// group than the present one by the superuser, and by an owner who belongs to it.
+pub fn owners_name_groups_to_which_they_belong()
+    ensures lists { (owner : List ℕ) (caller : Caller) →
+        (IsTrue (may_set_access owner caller) ↔ ((caller.id ≡ superuser) ⊎ (caller.id ≡ owner))) }
+    ensures owner { (owner new : List ℕ) (caller : Caller) →
+        (IsTrue (may_set_owner owner new caller) ↔ ((caller.id ≡ superuser) ⊎ (new ≡ owner))) }
+    ensures group { (owner group new : List ℕ) (caller : Caller) →
+        (IsTrue (may_set_group owner group new caller)
+        ↔ ((caller.id ≡ superuser) ⊎ ((new ≡ group) ⊎ ((caller.id ≡ owner) × Contains caller.groups new)))) }
+{}
+
+/// Below a parent without a default list, with no permissions and no umask asked for, a directory shows `rwxr-x---` and a file
+/// `rw-r-----`.
+pub fn a_usual_node_is_closed_to_others()
+    ensures directory { (parent : AclPair) → parent.default ≡ None →
+        permissions_text false (acl_inherit parent kind.Directory None None).0.access ≡ codes "rwxr-x---" }
+    ensures file { (parent : AclPair) → parent.default ≡ None →
+        permissions_text false (acl_inherit parent kind.File None None).0.access ≡ codes "rw-r-----" }
 {}

@@ -1,90 +1,22 @@
-ghost use Rattle.std.specs.Prelude.{◌≡◌, ◌<◌, bit_and, IfErr};
-ghost use Rattle.std.specs.FinMap.{find};
-ghost use Rattle.std.specs.Ordering.{eq_by_cmp};
-ghost use Rattle.acl_text.specs.Whos.{who_cmp};
+ghost use Rattle.std.specs.Prelude.{◌≡◌, IfErr};
 ghost use Rattle.acl_check.specs.AccessLaws.{HasAll, IsRuleOfCheck};
-ghost use Rattle.namespace_model.specs.Access.{access_check, bits_of, is_of_group_of, is_within, judged, masked_by, some_group_gives};
+ghost use Rattle.namespace_model.specs.Access.{access_check, is_of_group_of, judged, masked_by, some_group_gives};
 
-use crate::rights::{belongs_to, is_same, is_superuser};
-use acl_text::{Acl, Id, Perm, Who, compare};
+use crate::rights::{belongs_to, is_superuser};
+use acl_text::{Acl, Id, Perm, Who};
 use namespace_model::{Caller, Refusal, Rule};
-use std::cmp::Ordering;
-
-// The permissions of three bits.
-pub(crate) fn perm(bits: u8) -> Perm
-    requires { bits < 8 }
-    ensures { result ≡ bits }
-{
-    Perm::new(bits).unwrap()
-}
-
-// What both give.
-pub(crate) fn both(a: Perm, b: Perm) -> Perm
-    ensures { result ≡ bit_and a b }
-{
-    perm(a.bits() & b.bits())
-}
-
-// What the entry of one gives, where there is one.
-pub(crate) fn entry_of(entries: &[(Who, Perm)], who: &Who) -> Option<Perm>
-    ensures { result ≡ find who_cmp who.now entries.now }
-{
-    for entry in entries {
-        if compare(who, &entry.0) == Ordering::Equal {
-            return Some(entry.1);
-        }
-    }
-    None
-}
-
-fn is_user(who: &Who, id: &Id) -> bool
-    ensures { result ≡ eq_by_cmp who_cmp (Who.User id.now) who.now }
-{
-    match who {
-        Who::User(user) => is_same(id, user),
-        _ => false,
-    }
-}
-
-// What the entry of a named user gives, where there is one.
-fn user_entry_of(entries: &[(Who, Perm)], id: &Id) -> Option<Perm>
-    ensures { result ≡ find who_cmp (Who.User id.now) entries.now }
-{
-    for entry in entries {
-        if is_user(&entry.0, id) {
-            return Some(entry.1);
-        }
-    }
-    None
-}
-
-// What the entry of one gives, and nothing where there is none.
-pub(crate) fn bits_of(access: &Acl, who: &Who) -> Perm
-    ensures { result ≡ bits_of access.now who.now }
-{
-    entry_of(access.entries(), who).unwrap_or(perm(0))
-}
 
 // The bits that the mask leaves.
 fn masked_by(access: &Acl, bits: Perm) -> Perm
     ensures { result ≡ masked_by access.now bits }
 {
-    both(
-        bits,
-        entry_of(access.entries(), &Who::Mask).unwrap_or(perm(7)),
-    )
-}
-
-fn is_within(want: Perm, have: Perm) -> bool
-    ensures { result ≡ is_within want have }
-{
-    want.bits() & have.bits() == want.bits()
+    bits.and(access.mask().unwrap_or(Perm::ALL))
 }
 
 fn judged(rule: Rule, want: Perm, have: Perm) -> Result<(), Refusal>
     ensures { result ≡ judged rule want have }
 {
-    if is_within(want, have) {
+    if have.contains(want) {
         Ok(())
     } else {
         Err(Refusal { rule, have })
@@ -106,7 +38,7 @@ fn some_group_gives(access: &Acl, group: &Id, caller: &Caller, want: Perm) -> bo
     ensures { result ≡ some_group_gives access.now group.now caller.now want }
 {
     access.entries().iter().any(|entry| is_of_group_of(caller, group, &entry.0)
-        && is_within(want, masked_by(access, entry.1)))
+        && masked_by(access, entry.1).contains(want))
 }
 
 // What the first case that applies says.
@@ -117,16 +49,16 @@ fn case_of(access: &Acl, owner: &Id, group: &Id, caller: &Caller, want: Perm) ->
     if is_superuser(caller) {
         return Ok(());
     }
-    if is_same(&caller.id, owner) {
-        return judged(Rule::Owner, want, bits_of(access, &Who::Owner));
+    if caller.id == *owner {
+        return judged(Rule::Owner, want, access.owner());
     }
-    if let Some(bits) = user_entry_of(access.entries(), &caller.id) {
+    if let Some(bits) = access.user(&caller.id) {
         return judged(Rule::NamedUser, want, masked_by(access, bits));
     }
     if some_group_gives(access, group, caller, want) {
         return Ok(());
     }
-    judged(Rule::Other, want, bits_of(access, &Who::Other))
+    judged(Rule::Other, want, access.other())
 }
 
 /// Whether a caller has the wanted permissions on a node with this access list, owner and owning group.

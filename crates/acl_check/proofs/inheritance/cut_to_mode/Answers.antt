@@ -1,14 +1,22 @@
-use Rattle.std.proofs.Common.{ap, ◌∙◌}
+use Rattle.std.proofs.Common.{◌≡◌, ap, ◌∙◌}
 use Rattle.std.specs.Prelude.{bit_and}
+use Rattle.std.specs.FinMap as fin
+use Rattle.std.proofs.lemmas.Result.{IfOk-weaker}
 use Rattle.acl_text.specs.declared.perm.ModeBits.{ModeBits}
-use Rattle.acl_check.proofs.Inherited.{cut_made}
+use Rattle.acl_text.specs.AclMaps.{map_of}
+use Rattle.acl_text.specs.AclChanges.{mode_set}
+use Rattle.acl_check.proofs.Inherited.{cut_list, shown_group}
 use Rattle.acl_check.proofs.inheritance.cut_to_mode.Goals as goal
 
 pub returns : goal.returns
 returns c =
+    let acl = c.args.acl.now in
     let mode = c.args.mode.now in
-    let bits : ModeBits = record { sticky = mode.sticky; owner = c.both.result; group = c.both-2.result; other = c.both-3.result } in
-    cut_made c.args.acl.now c.in_ok-copy.field-0 mode bits c.in_ok-access.field-0 c.group_bits.ensures.acl c.in_ok-copy.ensures c.in_ok-access.ensures
-    (c.both.ensures ∙ ap (λ n. bit_and n mode.owner) c.bits_of.ensures)
-    (c.both-2.ensures ∙ ap (λ n. bit_and n mode.group) c.group_bits.ensures.bits)
-    (c.both-3.ensures ∙ ap (λ n. bit_and n mode.other) c.bits_of-2.ensures)
+    let bits : ModeBits = record { sticky = mode.sticky; owner = c.and.result; group = c.and-2.result; other = c.and-3.result } in
+    let is = c.mode-shown.ensures.acl in
+    let shown = c.mode-shown.ensures.mode in
+    let cut = cut_list acl mode bits is
+    (c.and.ensures ∙ ap (λ (b : ModeBits). bit_and b.owner mode.owner) shown)
+    (c.and-2.ensures ∙ ap (λ (b : ModeBits). bit_and b.group mode.group) shown ∙ ap (λ n. bit_and n mode.group) (shown_group acl is))
+    (c.and-3.ensures ∙ ap (λ (b : ModeBits). bit_and b.other mode.other) shown) in
+    IfOk-weaker _ (λ made. made ≡ fin.entries (mode_set bits (map_of acl))) _ (λ made e. e ∙ cut) c.with_mode.ensures

@@ -1,7 +1,7 @@
 // Tables of who may do what, and of what new nodes take from the directory above.
 use super::acl::{pair_of, say_pair};
 use super::say::{say, say_whether, split};
-use acl_check::{base_pair, check, inherit, may_chgrp, may_chmod, may_chown, sticky_allows};
+use acl_check::{check, inherit, may_chgrp, may_chmod, may_chown, sticky_allows};
 use acl_text::{AclPair, AclStop, Id, ModeBits, Perm, read_id, read_permissions, read_umask};
 use namespace_model::{Caller, IdList, Kind};
 use std::alloc::{AllocError, Global};
@@ -187,7 +187,7 @@ fn base(alloc: Global, mode: &[u8], out: &mut Vec<u8>) -> Result<(), AllocError>
 fn say_base(alloc: Global, mode: &ModeBits, out: &mut Vec<u8>) -> Result<(), AllocError> {
     say_pair(
         alloc,
-        base_pair(alloc, mode).map_err(|_| AclStop::NoMemory),
+        AclPair::of_mode(alloc, mode).map_err(|_| AclStop::NoMemory),
         out,
     )
 }

@@ -3,6 +3,7 @@ use Rattle.std.proofs.Common.{◌≡◌, ℕ, ◌==◌, ◌≤◌, Bool, true, f
 use Rattle.std.proofs.lemmas.Bool.Decides.{nat_tests}
 use Rattle.acl_text.specs.Ids.{superuser}
 use Rattle.acl_text.specs.declared.who.Who.{Who}
+use Rattle.acl_text.specs.declared.who.Who.TheVariants.{Other}
 use Rattle.head_text.specs.Conditions.{no_conditions}
 use Rattle.head_text.specs.ConditionsOf.{conditions_of}
 use Rattle.namespace_model.specs.declared.code.Code.TheVariants.{PathNotFound, DirectoryNotEmpty, FilesystemNotFound}
@@ -10,7 +11,7 @@ use Rattle.namespace_model.specs.declared.denied.Refusal.{Refusal}
 use Rattle.namespace_model.specs.declared.denied.Rule.TheVariants as rule
 use Rattle.namespace_model.specs.declared.reply.Reply.{Reply}
 use Rattle.namespace_model.specs.declared.request.Entry.{Entry}
-use Rattle.namespace_model.specs.Access.{access_check, cases, decided, Case, is_superuser, sticky_lets}
+use Rattle.namespace_model.specs.Access.{access_check, bits_of, cases, judged, decided, Case, is_superuser, sticky_lets}
 use Rattle.namespace_model.specs.Delete.{delete, delete_in, delete_node, cleared, gone, not_clearable}
 use Rattle.namespace_model.specs.Nodes.{Node, blank, is_directory}
 use Rattle.namespace_model.specs.Outcomes.{Outcome, reading, refused, unless, noted}
@@ -37,7 +38,7 @@ others (c ∷ cs) = cs
 
 all_allowed : (acl : List (Who × ℕ)) (owner group : List ℕ) (want : ℕ) → access_check acl owner group the_superuser want ≡ Ok tt
 unfolding access_check others
-all_allowed acl owner group want = decided_first (record { applies = is_superuser the_superuser; says = Ok tt }) (others (cases acl owner group the_superuser want)) _ is_super
+all_allowed acl owner group want = decided_first (record { applies = is_superuser the_superuser; says = Ok tt }) (others (cases acl owner group the_superuser want)) (judged rule.Other want (bits_of acl Other)) is_super
 
 lacks_none : (want : ℕ) (p : Path) (x : Node) → lacks the_superuser want p x ≡ None
 lacks_none want p x = ap (denied_by p want) (all_allowed x.acl.access x.owner x.group want)

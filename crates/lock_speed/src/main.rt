@@ -1,6 +1,7 @@
 //! Commits of tallies, to be timed: `lock_speed one COMMITS` makes so many by one pass, and `lock_speed four COMMITS` by each of
 //! four passes, in four threads on stripes apart. Each holds one stripe shared and one exclusively. It prints how many were made.
 #![tactic(auto)]
+
 ghost use Rattle.std.specs.Prelude.{◌≡◌, ◌+◌, ◌<◌, IfSome, length};
 ghost use Rattle.std.specs.Thread.{IsSync};
 ghost use Rattle.path_locks.specs.Views.{HoldsNothing};
@@ -10,14 +11,14 @@ use commit_journal::{JOURNAL_MOST, Limits, NoKeep};
 use lock_core::Tally;
 use lock_tests::callers::tallied;
 use std::alloc::Global;
-use std::env;
 use std::process::ExitCode;
 use std::sync::Wait;
-use std::thread;
 use std::thread::Threads;
+use std::{env, thread};
 use striped_store::{Pass, Store};
 
 type TallyStore = Store<Tally, NoKeep>;
+
 type TallyPass = Pass<Tally, NoKeep>;
 
 /// The last of the new passes.

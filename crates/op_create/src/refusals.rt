@@ -22,7 +22,13 @@ pub(crate) fn lacks(alloc: Global, caller: &Caller, at: Path, node: &NodeRef) ->
     ensures { result ≡ lacks caller.now write_execute at (node_of node.now) }
 {
     let meta = &node.inode().meta;
-    match check(&meta.acl.access, &meta.owner, &meta.group, caller, Perm::WRITE_EXECUTE) {
+    match check(
+        &meta.acl.access,
+        &meta.owner,
+        &meta.group,
+        caller,
+        Perm::WRITE_EXECUTE,
+    ) {
         Ok(()) => None,
         Err(refusal) => Some(denial(
             alloc,

@@ -212,4 +212,3 @@ fn op_of(path: Path, query: &Query, raw: &Raw) -> Result<Op, Code>
     }
     built_op(operation, path, query)
 }
-

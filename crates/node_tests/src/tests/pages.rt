@@ -14,12 +14,7 @@ fn numbered_name(alloc: Global, number: u64) -> Result<Name, Fail> {
 }
 
 // Gives names to ids, one after the other.
-fn link_names(
-    alloc: Global,
-    children: &mut Children,
-    from: u64,
-    count: u64,
-) -> Result<(), Fail> {
+fn link_names(alloc: Global, children: &mut Children, from: u64, count: u64) -> Result<(), Fail> {
     for place in 0..count {
         let number = from.saturating_add(place);
         children.link(alloc, numbered_name(alloc, number)?, NodeId(number))?;
@@ -28,12 +23,7 @@ fn link_names(
 }
 
 // Takes names away, one after the other.
-fn unlink_names(
-    alloc: Global,
-    children: &mut Children,
-    from: u64,
-    count: u64,
-) -> Result<(), Fail> {
+fn unlink_names(alloc: Global, children: &mut Children, from: u64, count: u64) -> Result<(), Fail> {
     for place in 0..count {
         let number = from.saturating_add(place);
         children.unlink(alloc, &numbered_name(alloc, number)?)?;
@@ -53,7 +43,14 @@ fn page_lens(children: &Children) -> (usize, usize, usize) {
 // The lengths of the pages of 300 names put in order, without the first hundred, and then without `c128` to `c227`.
 fn lens_of_three_hundred(
     alloc: Global,
-) -> Result<((usize, usize, usize), (usize, usize, usize), (usize, usize, usize)), Fail> {
+) -> Result<
+    (
+        (usize, usize, usize),
+        (usize, usize, usize),
+        (usize, usize, usize),
+    ),
+    Fail,
+> {
     let mut children = Children::new(alloc);
     link_names(alloc, &mut children, 0, 300)?;
     let filled = page_lens(&children);

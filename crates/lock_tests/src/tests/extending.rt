@@ -14,7 +14,12 @@ use std::thread::Threads;
 use striped_store::{Closing, Pass, Store};
 
 /// Takes a stripe exclusively and then the one above it, and answers how wide that is.
-fn climbed<R: Wait>(rt: &R, store: &Store<Tally, NoKeep>, pass: &mut Pass<Tally, NoKeep>, low: u8) -> u32
+fn climbed<R: Wait>(
+    rt: &R,
+    store: &Store<Tally, NoKeep>,
+    pass: &mut Pass<Tally, NoKeep>,
+    low: u8,
+) -> u32
     requires own { IsOf store.now pass.old × (low < 63) }
     requires nothing { HoldsNothing pass.old.seat }
     ensures same { IsSameSeat pass.old.seat pass.new.seat }
@@ -30,7 +35,12 @@ fn climbed<R: Wait>(rt: &R, store: &Store<Tally, NoKeep>, pass: &mut Pass<Tally,
 }
 
 /// Climbs a thousand times.
-fn all_climbed<R: Wait>(rt: &R, store: &Store<Tally, NoKeep>, mut pass: Pass<Tally, NoKeep>, low: u8) -> Pass<Tally, NoKeep>
+fn all_climbed<R: Wait>(
+    rt: &R,
+    store: &Store<Tally, NoKeep>,
+    mut pass: Pass<Tally, NoKeep>,
+    low: u8,
+) -> Pass<Tally, NoKeep>
     requires own { IsOf store.now pass × (low < 63) }
     requires nothing { HoldsNothing pass.seat }
     ensures same { IsSameSeat pass.seat result.seat }

@@ -66,7 +66,9 @@ fn a_keeper_that_fails_refuses_one_commit(rt: HostRuntime) -> Result<(), Fail> {
     };
     assert_eq!(rt; tallied(&rt, &store, &mut pass, 2, 1), Ok(receipt));
     let Closing {
-        journal, keeper, ..
+        journal,
+        keeper,
+        ..
     } = closed(store, passes, pass)?;
     assert_eq!(rt; (journal.len(), keeper.entries.len()), (2, 2));
     assert_eq!(rt; (keeper.calls, keeper.faults), (3, 1));

@@ -1,8 +1,8 @@
 ghost use Rattle.std.specs.Prelude.{◌≡◌};
 ghost use Rattle.striped_store.specs.Views.{IsOf};
 
-use crate::shelves::{Shelf, Shelves, delivered};
 use super::one::{closed, opened};
+use crate::shelves::{Shelf, Shelves, delivered};
 use commit_journal::{Full, NoKeep};
 use std::test::Fail;
 use striped_store::{Closing, CommitRefusal, Receipt};
@@ -49,7 +49,10 @@ fn a_full_journal_refuses_the_second_delivery(rt: HostRuntime) -> Result<(), Fai
         last: 0,
         room: true,
     };
-    assert_eq!(rt; (parts.get(63), parts.get(2)), (Some(&shelf), Some(&untouched)));
+    assert_eq!(rt;
+        (parts.get(63), parts.get(2)),
+        (Some(&shelf), Some(&untouched))
+    );
     assert_eq!(rt; journal.len(), 1);
     Ok(())
 }

@@ -15,7 +15,11 @@ use striped_store::{Closing, CommitRefusal, Pass, Receipt, Store};
 
 pub(super) type Passes = Vec<Pass<Tally, NoKeep>>;
 
-pub(super) fn opened(alloc: Global, passes: u32, entries: u64) -> Result<(Store<Tally, NoKeep>, Passes), Fail>
+pub(super) fn opened(
+    alloc: Global,
+    passes: u32,
+    entries: u64,
+) -> Result<(Store<Tally, NoKeep>, Passes), Fail>
     ensures many { IfOk result (λ r. length r.1.items ≡ r.0.seats) }
     ensures new { IfOk result (λ r. AreNewPasses r.0 r.1.items) }
 {
@@ -24,7 +28,10 @@ pub(super) fn opened(alloc: Global, passes: u32, entries: u64) -> Result<(Store<
 }
 
 /// The last of the new passes.
-pub(super) fn popped(store: &Store<Tally, NoKeep>, passes: &mut Passes) -> Result<Pass<Tally, NoKeep>, Fail>
+pub(super) fn popped(
+    store: &Store<Tally, NoKeep>,
+    passes: &mut Passes,
+) -> Result<Pass<Tally, NoKeep>, Fail>
     requires { AreNewPasses store.now passes.old.items }
     ensures new { AreNewPasses store.now passes.new.items }
     ensures fewer { OnOk result (length passes.new.items + 1 ≡ length passes.old.items) }

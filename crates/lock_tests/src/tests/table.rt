@@ -39,7 +39,12 @@ fn popped(table: &LockTable<Tally, NoKeep>, seats: &mut Seats) -> Result<Seat<Ta
 }
 
 /// Takes two neighbours exclusively, a thousand times.
-fn churned<R: Wait>(rt: &R, table: &LockTable<Tally, NoKeep>, mut seat: Seat<Tally, NoKeep>, low: u8) -> Seat<Tally, NoKeep>
+fn churned<R: Wait>(
+    rt: &R,
+    table: &LockTable<Tally, NoKeep>,
+    mut seat: Seat<Tally, NoKeep>,
+    low: u8,
+) -> Seat<Tally, NoKeep>
     requires own { (seat.table ≡ table.now.id) × (low < 63) }
     requires nothing { HoldsNothing seat }
     ensures same { IsSameSeat seat result }

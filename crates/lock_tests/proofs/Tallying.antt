@@ -1,5 +1,5 @@
 -- Callers of a store of tallies.
-use Rattle.std.proofs.Common.{◌≡◌, ◌⊎◌, inl, inr, ⊎_elim, ℕ, zero, suc, ◌+◌, ◌<◌, ◌≤◌, Bool, true, false, List, [], ◌∷◌, length, slice_get, slice_set, replicate, nat_eq, Some, refl, ap, sym, ◌∙◌, subst, length-set, eqb-true, arith}
+use Rattle.std.proofs.Common.{◌≡◌, ◌⊎◌, inl, inr, ⊎_elim, ℕ, zero, suc, ◌+◌, ◌<◌, ◌≤◌, Bool, true, false, List, [], ◌∷◌, ◌++◌, length, slice_get, slice_set, replicate, nat_eq, Some, refl, ap, sym, ◌∙◌, subst, length-set, eqb-true, arith}
 use Rattle.std.proofs.lemmas.Bool.Decides.{eqb_tells}
 use Rattle.std.proofs.lemmas.Option.{none-some}
 use Rattle.lock_core.specs.declared.object.LockMode.{LockMode}
@@ -16,7 +16,7 @@ use Rattle.path_locks.specs.Views.{SeatView, HeldView, TableView, number_of, Hol
 use Rattle.path_locks.proofs.Below.{some_inj, get-set_same, get-set_other}
 use Rattle.path_locks.proofs.Whole.{hold_at-past}
 use Rattle.striped_store.specs.Commits.{CanCommit}
-use Rattle.striped_store.specs.Views.{PassView, number_of_pass, IsOf, IsHeld}
+use Rattle.striped_store.specs.Views.{PassView, number_of_pass, IsOf, IsHeld, IsNewPass, AreNewPasses}
 use Rattle.striped_store.specs.Closed.{AreEveryPass}
 use Rattle.striped_store.proofs.Footprints.{some_read}
 use mathlib.Core.Option.{some, some-ne-none}
@@ -153,6 +153,13 @@ one_is {T} {E} {K} store a own nothing one first = record {
     by_number : (n : ℕ) → n < store.seats → (k : ℕ) × (p : PassView T E K) × (slice_get (a ∷ []) k ≡ Some p) × (number_of_pass p ≡ n)
     by_number zero h = (0, a, refl, first)
     by_number (suc n) h = absurd (omega arith)
+
+-- a store whose one new pass is taken out has one pass, which is the first
+pub only_new : {T E K : Type 0} (store : TableView E) (all rest : List (PassView T E K)) (p : PassView T E K) → all ≡ rest ++ p ∷ [] → rest ≡ []
+    → AreNewPasses store all → (length all ≡ 1) × IsNewPass store 0 p
+only_new {T} {E} {K} store all rest p whole none new =
+    let alone : all ≡ p ∷ [] = whole ∙ ap (λ (l : List (PassView T E K)). l ++ p ∷ []) none in
+    (ap (λ (l : List (PassView T E K)). length l) alone, new 0 p (ap (λ (l : List (PassView T E K)). slice_get l 0) alone))
 
 -- nothing is held above a stripe where a plan holds none, nor above one that was added
 pub none_above : (modes plan : List LockMode) → modes ≡ plan → plan ≡ no_plan → (k : ℕ) → k < 64 → slice_get modes k ≡ Some mode.None

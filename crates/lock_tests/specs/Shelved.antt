@@ -13,6 +13,9 @@ use lib.ListN.{get_elem?, length-replicate}
 abbrev pub bare_shelf : Shelf → Shelf
 bare_shelf s = record { last = s.last; room = false }
 
+abbrev pub empty_shelf : Shelf
+empty_shelf = record { last = 0; room = false }
+
 -- a shelf after the delivery with this number, which takes the room
 abbrev pub shelf_after : ℕ → Shelf
 shelf_after n = record { last = n; room = false }
@@ -20,7 +23,7 @@ shelf_after n = record { last = n; room = false }
 -- a delivery answers its number and is numbered by the ids that its pass used up before
 abbrev pub shelves : Object Shelf Delivery ℕ
 shelves = record {
-  opening = replicate 64 (record { last = 0; room = false });
+  opening = replicate 64 empty_shelf;
   reply = λ xs e n. n;
   after = λ xs e n. slice_set xs e.shelf (shelf_after n);
   reads = λ xs e n k. false;
@@ -40,7 +43,7 @@ filled xs i k n l h w = let e : k ≡ i = eqb-true k i w in subst (λ (j : ℕ).
 
 pub shelves_lawful : IsLawful shelves
 shelves_lawful = record {
-  opens = length-replicate {A = Shelf} 64 _;
+  opens = length-replicate {A = Shelf} 64 empty_shelf;
   keeps = λ xs e n l. length-set xs e.shelf (shelf_after n) ∙ l;
   frame = λ xs ys e n lx ly agree. record {
     reads = λ k h. refl;

@@ -80,6 +80,7 @@ fn two_passes_climb_over_a_stripe(rt: HostRuntime) -> Result<(), Fail> {
     let (store, mut passes) = opened(rt.alloc(), 2, 9)?;
     let second = popped(&store, &mut passes)?;
     let mut first = popped(&store, &mut passes)?;
+    assert!(rt; passes.is_empty());
     assert_eq!(rt; climbed(&rt, &store, &mut first, 62), 4);
     let (first, second) = both_climbed(&rt, &store, first, second);
     let Closing { journal, .. } = closed(store, passes, first, second)?;

@@ -1,5 +1,5 @@
 //! Stores of one pass.
-ghost use Rattle.std.specs.Prelude.{◌≡◌, [], IfOk};
+ghost use Rattle.std.specs.Prelude.{◌≡◌, [], true, IfOk};
 ghost use Rattle.commit_journal.specs.Keeper.{AreKept};
 ghost use Rattle.path_locks.specs.Views.{HoldsNothing};
 ghost use Rattle.striped_store.specs.Views.{number_of_pass, IsOf};
@@ -9,6 +9,13 @@ use lock_core::Parted;
 use std::alloc::Global;
 use std::test::Fail;
 use striped_store::{Closing, Pass, Store};
+
+/// Whether no pass is left.
+fn is_none<P: Parted, K: Keeper<P::Entry>>(passes: &Vec<Pass<P, K>>) -> bool
+    ensures { result ≡ true → passes.now.items ≡ [] }
+{
+    passes.is_empty()
+}
 
 /// A store of one pass, with a journal of at most so many entries and bytes.
 pub(super) fn opened<P: Parted, K: Keeper<P::Entry>>(
@@ -24,9 +31,13 @@ pub(super) fn opened<P: Parted, K: Keeper<P::Entry>>(
 {
     let limits = Limits::new(1, entries, bytes, 1).ok_or("no limits")?;
     let (store, mut passes) = Store::<P, K>::start(alloc, &limits, keeper)?;
-    match passes.pop() {
-        Some(pass) => Ok((store, passes, pass)),
-        None => Err("no pass")?,
+    let Some(pass) = passes.pop() else {
+        return Err(Fail::new("no pass"));
+    };
+    if is_none(&passes) {
+        Ok((store, passes, pass))
+    } else {
+        Err(Fail::new("more than one pass"))
     }
 }
 

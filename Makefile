@@ -32,6 +32,7 @@ try:
 bench:
 	bench/pipe
 	bench/paths
+	bench/locks
 	bench/files
 
 fmt:

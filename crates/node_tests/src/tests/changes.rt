@@ -1,4 +1,6 @@
 // What each change makes of a stripe.
+ghost use Rattle.std.specs.Prelude.{◌<◌};
+
 use super::making::{
     child, drop_node, flush, link, look, put_directory, put_file, set_meta, stage, unlink,
 };
@@ -98,7 +100,9 @@ fn with_child(
     id: u64,
     text: &[u8],
     child: u64,
-) -> Result<Stripe, AllocError> {
+) -> Result<Stripe, AllocError>
+    requires { stripe < 64 }
+{
     let mut stripe = Stripe::new(alloc, stripe);
     put_directory(alloc, &mut stripe, id, 1)?;
     link(alloc, &mut stripe, id, text, child)?;
@@ -112,7 +116,9 @@ fn leads_to(
     id: u64,
     text: &[u8],
     to: u64,
-) -> Result<Option<NodeId>, AllocError> {
+) -> Result<Option<NodeId>, AllocError>
+    requires { stripe < 64 }
+{
     let stripe = with_child(alloc, stripe, id, text, to)?;
     child(alloc, &stripe, id, text)
 }

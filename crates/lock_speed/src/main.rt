@@ -108,7 +108,9 @@ fn four_churned<R: Threads + Wait + Sync>(
 /// How many were made: by four passes, or by one.
 fn made<R: Threads + Wait + Sync>(rt: &R, alloc: Global, four: bool, commits: u32) -> Option<u32> {
     let limits = Limits::new(4, JOURNAL_MOST, 1, 1)?;
-    let (store, mut passes) = Store::<Tally, NoKeep>::start(alloc, &limits, NoKeep).ok()?;
+    let Ok((store, mut passes)) = Store::<Tally, NoKeep>::start(alloc, &limits, NoKeep) else {
+        return None;
+    };
     if four {
         four_churned(rt, &store, &mut passes, commits)
     } else {

@@ -30,9 +30,17 @@ fn text(alloc: Global, bytes: &[u8]) -> Result<Piece, AllocError> {
     Ok(Piece::new(bytes.to_vec(alloc)?))
 }
 
+// Whether a copy succeeds.
+fn is_copied(alloc: Global, op: &Op) -> bool {
+    op.copy(alloc).is_ok()
+}
+
 fn copy_op(alloc: Global, op: Op) -> Result<(), AllocError> {
-    let _copied = op.copy(alloc)?;
-    Ok(())
+    if is_copied(alloc, &op) {
+        Ok(())
+    } else {
+        Err(AllocError)
+    }
 }
 
 fn copy_a_page(alloc: Global) -> Result<(), AllocError> {
@@ -169,16 +177,35 @@ fn request(alloc: Global) -> Result<Request, AllocError> {
     Ok(request_of(caller, Op::GetAccess { path }, cond, body))
 }
 
-#[test]
-fn entries_are_copied(rt: HostRuntime) -> Result<(), Fail> {
-    let entry = Entry {
+fn entry_of(request: Request) -> Entry {
+    Entry {
         conn: 1,
         index: 2,
         moment: 3,
-        request: request(rt.alloc())?,
-    };
-    let copied = entry.copy(rt.alloc())?;
-    assert_eq!(rt; (copied.conn, copied.index, copied.moment), (1, 2, 3));
+        request,
+    }
+}
+
+fn numbers_of(entry: &Entry) -> (u32, u32, u64) {
+    (entry.conn, entry.index, entry.moment)
+}
+
+// What a copy keeps of the numbers.
+fn numbers_of_a_copy(alloc: Global, entry: &Entry) -> Option<(u32, u32, u64)> {
+    match entry.copy(alloc) {
+        Ok(copied) => Some(numbers_of(&copied)),
+        Err(_) => None,
+    }
+}
+
+fn copied_numbers(alloc: Global) -> Result<Option<(u32, u32, u64)>, AllocError> {
+    let entry = entry_of(request(alloc)?);
+    Ok(numbers_of_a_copy(alloc, &entry))
+}
+
+#[test]
+fn entries_are_copied(rt: HostRuntime) -> Result<(), Fail> {
+    assert_eq!(rt; copied_numbers(rt.alloc())?, Some((1, 2, 3)));
     Ok(())
 }
 

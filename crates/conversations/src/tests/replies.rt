@@ -5,7 +5,7 @@ ghost use Rattle.reply_text.specs.ReplyText.{CanSpell};
 
 use acl_text::Perm;
 use file_data::Piece;
-use head_text::{Props, read_props};
+use head_text::read_props;
 use namespace_model::{Code, Denied, Field, FieldList, Kind, Media, Reply, Rule};
 use path_text::{Path, read_plain};
 use reply_text::{Last, fill, last_reply, spell};
@@ -22,8 +22,13 @@ fn text_of(alloc: Global, reply: &Reply, number: u64, head: bool) -> Result<Vec<
     Ok(out)
 }
 
-fn fields_of_part(alloc: Global, props: Props) -> Result<Vec<Field>, AllocError> {
-    Ok(vec![in alloc;
+// The last five bytes of a file of ten.
+fn part(alloc: Global) -> Result<Reply, AllocError>
+    ensures { IfOk result CanSpell }
+{
+    let props = read_props(alloc, b"k=dg==").map_err(|_| AllocError)?;
+    let body = Piece::new(Vec::from_slice(alloc, b"world")?);
+    let fields = vec![in alloc;
         Field::ETag(Some(10)),
         Field::LastModified(784_111_777_000),
         Field::AcceptRanges,
@@ -35,30 +40,27 @@ fn fields_of_part(alloc: Global, props: Props) -> Result<Vec<Field>, AllocError>
         Field::ContentType(Media::Octets),
         Field::ResourceType(Kind::File),
         Field::Properties(props),
-    ]?)
+    ]?;
+    Ok(Reply {
+        status: 206,
+        code: None,
+        fields: FieldList::new(fields),
+        body,
+        denied: None,
+    })
 }
 
-fn reply(status: u16, code: Option<Code>, fields: Vec<Field>, body: Vec<u8>) -> Reply
-    requires { IsStatusCode status }
+// A look at a node that was not modified.
+fn not_modified(alloc: Global) -> Reply
     ensures { CanSpell result }
 {
     Reply {
-        status,
-        code,
-        fields: FieldList::new(fields),
-        body: Piece::new(body),
+        status: 304,
+        code: Some(Code::ConditionNotMet),
+        fields: FieldList::new(Vec::new(alloc)),
+        body: Piece::new(Vec::new(alloc)),
         denied: None,
     }
-}
-
-// The last five bytes of a file of ten.
-fn part(alloc: Global) -> Result<Reply, AllocError>
-    ensures { IfOk result CanSpell }
-{
-    let props = read_props(alloc, b"k=dg==").map_err(|_| AllocError)?;
-    let fields = fields_of_part(alloc, props)?;
-    let body = Vec::from_slice(alloc, b"world")?;
-    Ok(reply(206, None, fields, body))
 }
 
 #[test]
@@ -74,13 +76,7 @@ fn a_part_of_a_file(rt: HostRuntime) -> Result<(), Fail> {
 #[test]
 fn nothing_was_modified(rt: HostRuntime) -> Result<(), Fail> {
     let alloc = rt.alloc();
-    let reply = reply(
-        304,
-        Some(Code::ConditionNotMet),
-        Vec::new(alloc),
-        Vec::new(alloc),
-    );
-    let text = text_of(alloc, &reply, 0xAB, false)?;
+    let text = text_of(alloc, &not_modified(alloc), 0xAB, false)?;
     assert_eq!(rt;
         text.as_slice(),
         b"before HTTP/1.1 304 Not Modified\r\nDate: Thu, 01 Jan 1970 00:00:00 GMT\r\nx-ms-request-id: 00000000000000AB\r\nx-ms-version: 2020-08-04\r\nx-ms-error-code: ConditionNotMet\r\n\r\n".as_slice()

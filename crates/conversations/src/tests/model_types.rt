@@ -35,30 +35,26 @@ fn is_copied(alloc: Global, op: &Op) -> bool {
     op.copy(alloc).is_ok()
 }
 
-fn copy_op(alloc: Global, op: Op) -> Result<(), AllocError> {
-    if is_copied(alloc, &op) {
-        Ok(())
-    } else {
-        Err(AllocError)
-    }
+fn copy_op(alloc: Global, op: Op) -> bool {
+    is_copied(alloc, &op)
 }
 
-fn copy_a_page(alloc: Global) -> Result<(), AllocError> {
+fn copy_a_page(alloc: Global) -> Result<bool, AllocError> {
     let prefix = text(alloc, b"da")?;
     let token = Some(path(alloc)?);
-    copy_op(
+    Ok(copy_op(
         alloc,
         Op::ListFilesystems {
             prefix,
             token,
             max: 7,
         },
-    )
+    ))
 }
 
-fn copy_a_create(alloc: Global) -> Result<(), AllocError> {
+fn copy_a_create(alloc: Global) -> Result<bool, AllocError> {
     let path = path(alloc)?;
-    copy_op(
+    Ok(copy_op(
         alloc,
         Op::Create {
             path,
@@ -67,14 +63,14 @@ fn copy_a_create(alloc: Global) -> Result<(), AllocError> {
             umask: None,
             props: Some(Props::none(alloc)),
         },
-    )
+    ))
 }
 
-fn copy_a_setting(alloc: Global) -> Result<(), AllocError> {
+fn copy_a_setting(alloc: Global) -> Result<bool, AllocError> {
     let path = path(alloc)?;
     let owner = Some(id(alloc)?);
     let acl = Some(list(alloc)?);
-    copy_op(
+    Ok(copy_op(
         alloc,
         Op::SetAccess {
             path,
@@ -83,12 +79,12 @@ fn copy_a_setting(alloc: Global) -> Result<(), AllocError> {
             permissions: None,
             acl,
         },
-    )
+    ))
 }
 
-fn copy_a_batch(alloc: Global, change: BatchChange) -> Result<(), AllocError> {
+fn copy_a_batch(alloc: Global, change: BatchChange) -> Result<bool, AllocError> {
     let path = path(alloc)?;
-    copy_op(
+    Ok(copy_op(
         alloc,
         Op::SetAccessRecursive {
             path,
@@ -97,23 +93,23 @@ fn copy_a_batch(alloc: Global, change: BatchChange) -> Result<(), AllocError> {
             max: 9,
             force: true,
         },
-    )
+    ))
 }
 
 #[test]
 fn operations_are_copied(rt: HostRuntime) -> Result<(), Fail> {
-    copy_a_page(rt.alloc())?;
-    copy_a_create(rt.alloc())?;
-    copy_a_setting(rt.alloc())?;
+    assert!(rt; copy_a_page(rt.alloc())?);
+    assert!(rt; copy_a_create(rt.alloc())?);
+    assert!(rt; copy_a_setting(rt.alloc())?);
     Ok(())
 }
 
 #[test]
 fn changes_of_a_batch_are_copied(rt: HostRuntime) -> Result<(), Fail> {
     let alloc = rt.alloc();
-    copy_a_batch(alloc, BatchChange::Set(list(alloc)?))?;
-    copy_a_batch(alloc, BatchChange::Modify(list(alloc)?))?;
-    copy_a_batch(alloc, BatchChange::Remove(items(alloc)?))?;
+    assert!(rt; copy_a_batch(alloc, BatchChange::Set(list(alloc)?))?);
+    assert!(rt; copy_a_batch(alloc, BatchChange::Modify(list(alloc)?))?);
+    assert!(rt; copy_a_batch(alloc, BatchChange::Remove(items(alloc)?))?);
     Ok(())
 }
 

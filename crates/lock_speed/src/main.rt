@@ -9,7 +9,7 @@ ghost use Rattle.striped_store.specs.Views.{AreNewPasses, IsOf};
 
 use commit_journal::{JOURNAL_MOST, Limits, NoKeep};
 use lock_core::Tally;
-use lock_tests::callers::tallied;
+use lock_tests::callers::churned;
 use std::alloc::Global;
 use std::process::ExitCode;
 use std::sync::Wait;
@@ -34,21 +34,6 @@ fn popped(store: &TallyStore, passes: &mut Vec<TallyPass>) -> Option<TallyPass>
     }
 }
 
-/// Commits the same entry so many times, and answers how many were made.
-fn churned<R: Wait>(rt: &R, store: &TallyStore, mut pass: TallyPass, reads: u8, commits: u32) -> u32
-    requires own { IsOf store.now pass }
-    requires nothing { HoldsNothing pass.seat }
-    requires stripes { reads < 63 }
-{
-    let mut made = 0u32;
-    for _round in 0..commits {
-        if tallied(rt, store, &mut pass, reads, reads + 1).is_ok() {
-            made = made.saturating_add(1);
-        }
-    }
-    made
-}
-
 /// Two threads commit on stripes apart.
 fn two_churned<R: Threads + Wait + Sync>(
     rt: &R,
@@ -64,10 +49,16 @@ fn two_churned<R: Threads + Wait + Sync>(
 {
     let low = move || -> u32
         requires { IsSync R.row × IsOf store.now first × HoldsNothing first.seat × (reads < 55) }
-    { churned(rt, store, first, reads, commits) };
+    {
+        let mut pass = first;
+        churned(rt, store, &mut pass, reads, reads + 1, commits)
+    };
     let high = move || -> u32
         requires { IsSync R.row × IsOf store.now second × HoldsNothing second.seat × (reads < 55) }
-    { churned(rt, store, second, reads + 8, commits) };
+    {
+        let mut pass = second;
+        churned(rt, store, &mut pass, reads + 8, reads + 9, commits)
+    };
     let (made, more) = thread::join(rt, low, high);
     made.saturating_add(more)
 }
@@ -114,8 +105,8 @@ fn made<R: Threads + Wait + Sync>(rt: &R, alloc: Global, four: bool, commits: u3
     if four {
         four_churned(rt, &store, &mut passes, commits)
     } else {
-        let pass = popped(&store, &mut passes)?;
-        Some(churned(rt, &store, pass, 0, commits))
+        let mut pass = popped(&store, &mut passes)?;
+        Some(churned(rt, &store, &mut pass, 0, 1, commits))
     }
 }
 

@@ -1,5 +1,5 @@
 -- Callers of a store of tallies.
-use Rattle.std.proofs.Common.{◌≡◌, ◌⊎◌, inl, inr, ⊎_elim, ℕ, zero, suc, ◌+◌, ◌<◌, ◌≤◌, Bool, true, false, List, [], ◌∷◌, ◌++◌, length, slice_get, slice_set, replicate, nat_eq, Some, refl, ap, sym, ◌∙◌, subst, length-set, eqb-true, arith}
+use Rattle.std.proofs.Common.{◌≡◌, ◌≢◌, ◌⊎◌, inl, inr, ⊎_elim, ℕ, zero, suc, ◌+◌, ◌<◌, ◌≤◌, Bool, true, false, List, [], ◌∷◌, ◌++◌, length, slice_get, slice_set, replicate, nat_eq, Some, refl, ap, sym, ◌∙◌, subst, length-set, eqb-true, arith}
 use Rattle.std.proofs.lemmas.Bool.Decides.{eqb_tells}
 use Rattle.std.proofs.lemmas.Option.{none-some}
 use Rattle.lock_core.specs.declared.object.LockMode.{LockMode}
@@ -12,11 +12,11 @@ use Rattle.lock_core.specs.Machine.{hold_at, note_of, HeldIn, IsNoted}
 use Rattle.lock_core.specs.Tallied.{tally}
 use Rattle.path_locks.specs.Narrow.{IsBelow, IsWithin, narrowed, AreNarrowed}
 use Rattle.path_locks.specs.Plans.{no_plan}
-use Rattle.path_locks.specs.Views.{SeatView, HeldView, TableView, number_of, HoldsNothing, IsHeldBy}
+use Rattle.path_locks.specs.Views.{SeatView, HeldView, TableView, number_of, HoldsNothing, IsHeldBy, AreEverySeat}
 use Rattle.path_locks.proofs.Below.{some_inj, get-set_same, get-set_other}
 use Rattle.path_locks.proofs.Whole.{hold_at-past}
 use Rattle.striped_store.specs.Commits.{CanCommit}
-use Rattle.striped_store.specs.Views.{PassView, number_of_pass, IsOf, IsHeld, IsNewPass, AreNewPasses}
+use Rattle.striped_store.specs.Views.{PassView, number_of_pass, IsOf, IsHeld}
 use Rattle.striped_store.specs.Closed.{AreEveryPass}
 use Rattle.striped_store.proofs.Footprints.{some_read}
 use mathlib.Core.Option.{some, some-ne-none}
@@ -136,7 +136,7 @@ of_two P a b p q zero s e = subst P (some_inj a s e) p
 of_two P a b p q (suc zero) s e = subst P (some_inj b s e) q
 of_two P a b p q (suc (suc k)) s e = absurd (none-some s e)
 
-of_one : {A : Type 0} (P : A → Type 0) (a : A) → P a → (k : ℕ) (s : A) → slice_get (a ∷ []) k ≡ Some s → P s
+pub of_one : {A : Type 0} (P : A → Type 0) (a : A) → P a → (k : ℕ) (s : A) → slice_get (a ∷ []) k ≡ Some s → P s
 of_one P a p zero s e = subst P (some_inj a s e) p
 of_one P a p (suc k) s e = absurd (none-some s e)
 
@@ -153,13 +153,6 @@ one_is {T} {E} {K} store a own nothing one first = record {
     by_number : (n : ℕ) → n < store.seats → (k : ℕ) × (p : PassView T E K) × (slice_get (a ∷ []) k ≡ Some p) × (number_of_pass p ≡ n)
     by_number zero h = (0, a, refl, first)
     by_number (suc n) h = absurd (omega arith)
-
--- a store whose one new pass is taken out has one pass, which is the first
-pub only_new : {T E K : Type 0} (store : TableView E) (all rest : List (PassView T E K)) (p : PassView T E K) → all ≡ rest ++ p ∷ [] → rest ≡ []
-    → AreNewPasses store all → (length all ≡ 1) × IsNewPass store 0 p
-only_new {T} {E} {K} store all rest p whole none new =
-    let alone : all ≡ p ∷ [] = whole ∙ ap (λ (l : List (PassView T E K)). l ++ p ∷ []) none in
-    (ap (λ (l : List (PassView T E K)). length l) alone, new 0 p (ap (λ (l : List (PassView T E K)). slice_get l 0) alone))
 
 -- nothing is held above a stripe where a plan holds none, nor above one that was added
 pub none_above : (modes plan : List LockMode) → modes ≡ plan → plan ≡ no_plan → (k : ℕ) → k < 64 → slice_get modes k ≡ Some mode.None
@@ -183,3 +176,21 @@ two_are {T} {E} {K} store a b own_a own_b no_a no_b two first second = record {
     by_number zero h = (0, a, refl, first)
     by_number (suc zero) h = (1, b, refl, second)
     by_number (suc (suc n)) h = absurd (omega arith)
+
+-- two seats are all seats of their table
+pub two_seats_are : {T E K : Type 0} (table : TableView E) (a b : SeatView T E K) → a.table ≡ table.id → b.table ≡ table.id → HoldsNothing a → HoldsNothing b
+    → table.seats ≡ 2 → number_of a ≡ 0 → number_of b ≡ 1 → AreEverySeat table (a ∷ b ∷ [])
+two_seats_are {T} {E} {K} table a b own_a own_b no_a no_b two first second = record {
+  own = of_two (λ (z : SeatView T E K). z.table ≡ table.id) a b own_a own_b;
+  nothing = of_two (λ (z : SeatView T E K). HoldsNothing z) a b no_a no_b;
+  every = by_number;
+}
+  where
+    by_number : (n : ℕ) → n < table.seats → (k : ℕ) × (s : SeatView T E K) × (slice_get (a ∷ b ∷ []) k ≡ Some s) × (number_of s ≡ n)
+    by_number zero h = (0, a, refl, first)
+    by_number (suc zero) h = (1, b, refl, second)
+    by_number (suc (suc n)) h = absurd (omega arith)
+
+-- a mode that is there and is not none
+pub not_none : (modes : List LockMode) (k : ℕ) (m : LockMode) → slice_get modes k ≡ Some m → m ≢ mode.None → slice_get modes k ≢ Some mode.None
+not_none modes k m at held free = held (some_inj m mode.None (sym at ∙ free))

@@ -106,3 +106,27 @@ pub fn narrowed<R: Wait, K: Keeper<TallyEntry>>(
         }
     }
 }
+
+/// Commits the same entry so many times, and answers how often it was made.
+pub fn churned<R: Wait, K: Keeper<TallyEntry>>(
+    rt: &R,
+    store: &Store<Tally, K>,
+    pass: &mut Pass<Tally, K>,
+    reads: u8,
+    writes: u8,
+    rounds: u32,
+) -> u32
+    requires own { IsOf store.now pass.old }
+    requires nothing { HoldsNothing pass.old.seat }
+    requires stripes { (reads < 64) × (writes < 64) }
+    ensures same { IsSeatAgain pass.old.seat pass.new.seat }
+    ensures nothing { HoldsNothing pass.new.seat }
+{
+    let mut made = 0u32;
+    for _round in 0..rounds {
+        if tallied(rt, store, pass, reads, writes).is_ok() {
+            made = made.saturating_add(1);
+        }
+    }
+    made
+}

@@ -1,7 +1,10 @@
+mod calls;
 mod extending;
 mod keeping;
 mod machine;
 mod one;
+mod pass_pair;
+mod seat_pair;
 mod shelves;
 mod store;
 mod table;

@@ -56,24 +56,30 @@ fn make_room<E: Bodied + Drop, K: Keeper<E>>(
     }
 }
 
+/// The journal that a seat took, and its keeper.
+#[derive(Drop)]
+struct Taken<P: Parted, K: Keeper<P::Entry>> {
+    journal: Journal<P::Entry>,
+    keeper: K,
+}
+
 /// Adds the entry to the journal, does its work, gives the journal back, and then all that is held.
 fn enter<P: Parted, K: Keeper<P::Entry>>(
     table: &LockTable<P, K>,
     seat: &mut Seat<P, K>,
     mut held: Held<P, K>,
-    mut journal: Journal<P::Entry>,
-    keeper: K,
+    taken: Taken<P, K>,
     entry: P::Entry,
     work: &P::Work,
 ) -> u64
     requires own { seat.old.table ≡ table.now.id }
     requires held { IsHeldBy P.bare seat.old held }
     requires journal { has_journal seat.old ≡ true }
-    requires entries { journal.entries ≡ seen_of seat.old }
-    requires limits { journal.limits ≡ limits_of seat.old }
-    requires room { HasRoom P.Entry.body journal (P.Entry.body entry) }
-    requires kept { AreKept (K.tells keeper).kept (journal.entries ++ entry ∷ []) }
-    requires counts { taken_of seat.old ≤ (K.tells keeper).faults }
+    requires entries { taken.journal.entries ≡ seen_of seat.old }
+    requires limits { taken.journal.limits ≡ limits_of seat.old }
+    requires room { HasRoom P.Entry.body taken.journal (P.Entry.body entry) }
+    requires kept { AreKept (K.tells taken.keeper).kept (taken.journal.entries ++ entry ∷ []) }
+    requires counts { taken_of seat.old ≤ (K.tells taken.keeper).faults }
     requires may { MayCommit P.object seat.old.me.0.at entry }
     requires does { P.does work.now (notes P.object seat.old.me.0.at) entry }
     requires ready { AreReady P.ready work.now held.parts }
@@ -81,12 +87,16 @@ fn enter<P: Parted, K: Keeper<P::Entry>>(
     ensures seen { seen_of seat.new ≡ seen_of seat.old ++ entry ∷ [] }
     ensures mine { mine_of seat.new ≡ mine_of seat.old ++ entry ∷ [] }
     ensures nothing { HoldsNothing seat.new }
-    ensures counts { (taken_of seat.new ≡ taken_of seat.old) × (tape_of seat.new ≡ (K.tells keeper).faults) }
+    ensures counts { (taken_of seat.new ≡ taken_of seat.old) × (tape_of seat.new ≡ (K.tells taken.keeper).faults) }
     ensures number { result ≡ length (seen_of seat.new) }
     ensures stands { Stands P.object seat.new.me.0.at }
     ensures fit { AllFit P.object (seen_of seat.new) }
     ensures within { IsWithin P.Entry.body (journal_seen seat.new) }
 {
+    let Taken {
+        mut journal,
+        keeper,
+    } = taken;
     let number = journal.push(entry);
     table.commit(seat, &mut held, journal, keeper, work);
     table.release(seat, held);
@@ -127,7 +137,10 @@ pub(crate) fn commit_seat<R: Wait, P: Parted, K: Keeper<P::Entry>>(
     let ready = held.reserve(work);
     let (mut journal, mut keeper) = table.take_journal(rt, seat);
     match make_room(&mut journal, &mut keeper, &entry, ready) {
-        Ok(()) => Ok(enter(table, seat, held, journal, keeper, entry, work)),
+        Ok(()) => {
+            let taken = Taken { journal, keeper };
+            Ok(enter(table, seat, held, taken, entry, work))
+        }
         Err(stop) => {
             table.give_journal(seat, journal, keeper);
             Err((held, stop))

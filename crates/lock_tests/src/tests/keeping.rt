@@ -1,12 +1,13 @@
-ghost use Rattle.std.specs.Prelude.{◌≡◌, Some, []};
+ghost use Rattle.std.specs.Prelude.{◌≡◌, ◌<◌, Some, []};
 
-use super::one::{closed, opened};
+use super::one::Lone;
 use crate::callers::{Refused, tallied};
 use commit_journal::{KeepStop, Keeper};
 use lock_core::{Tally, TallyEntry};
 use std::alloc::{AllocError, Global};
+use std::sync::Wait;
 use std::test::Fail;
-use striped_store::{Closing, CommitRefusal, Receipt};
+use striped_store::{CommitRefusal, Receipt};
 
 /// A keeper in memory, whose device fails at one call.
 #[derive(Drop)]
@@ -46,32 +47,72 @@ impl Keeper<TallyEntry> for MemKeep {
     }
 }
 
+type Shop = Lone<Tally, MemKeep>;
+
+/// A store whose keeper fails at its second call.
+fn opened(alloc: Global) -> Result<Shop, Fail> {
+    let keeper = MemKeep::new(alloc, 2);
+    Shop::open(alloc, 9, 100, keeper)
+}
+
+/// Commits an entry.
+fn commit<R: Wait>(rt: &R, shop: &mut Shop, reads: u8, writes: u8) -> Result<Receipt, Refused>
+    requires { (reads < 64) × (writes < 64) }
+{
+    tallied(rt, &shop.store, &mut shop.pass, reads, writes)
+}
+
+/// Three commits, of which the second one finds that the keeper fails.
+fn three_commits<R: Wait>(rt: &R, shop: &mut Shop) -> (bool, Option<Refused>, Option<Receipt>) {
+    let first = commit(rt, shop, 1, 2).is_ok();
+    let second = commit(rt, shop, 2, 1).err();
+    let third = commit(rt, shop, 2, 1).ok();
+    (first, second, third)
+}
+
+/// What the closed store left.
+#[derive(Clone, Copy, Debug, PartialEq, Eq)]
+struct Tail {
+    /// The entries of the journal, and those that were kept.
+    entries: (u64, usize),
+    /// The calls of the keeper, and how often it failed.
+    calls: (u64, u64),
+    /// The last entry of the journal is the last one that was kept.
+    is_same: bool,
+}
+
+fn tail_of(shop: Shop) -> Result<Tail, AllocError> {
+    let closing = shop.close()?;
+    let kept = &closing.keeper.entries;
+    Ok(Tail {
+        entries: (closing.journal.len(), kept.len()),
+        calls: (closing.keeper.calls, closing.keeper.faults),
+        is_same: closing.journal.get(2) == kept.get(1),
+    })
+}
+
 #[test]
 fn a_keeper_that_fails_refuses_one_commit(rt: HostRuntime) -> Result<(), Fail> {
-    let keeper = MemKeep::new(rt.alloc(), 2);
-    let (store, passes, mut pass) = opened::<Tally, MemKeep>(rt.alloc(), 9, 100, keeper)?;
-    let kept = tallied(&rt, &store, &mut pass, 1, 2);
-    assert!(rt; kept.is_ok());
     let refused = Refused {
         why: CommitRefusal::Tape,
         wide: 3,
         read: 1,
     };
-    assert_eq!(rt; tallied(&rt, &store, &mut pass, 2, 1), Err(refused));
     let receipt = Receipt {
         number: 2,
         shared: 4,
         exclusive: 2,
         rounds: 0,
     };
-    assert_eq!(rt; tallied(&rt, &store, &mut pass, 2, 1), Ok(receipt));
-    let Closing {
-        journal,
-        keeper,
-        ..
-    } = closed(store, passes, pass)?;
-    assert_eq!(rt; (journal.len(), keeper.entries.len()), (2, 2));
-    assert_eq!(rt; (keeper.calls, keeper.faults), (3, 1));
-    assert_eq!(rt; journal.get(2), keeper.entries.get(1));
+    let mut shop = opened(rt.alloc())?;
+    let found = three_commits(&rt, &mut shop);
+    assert!(rt; found == (true, Some(refused), Some(receipt)));
+    let left = tail_of(shop)?;
+    let expected = Tail {
+        entries: (2, 2),
+        calls: (3, 1),
+        is_same: true,
+    };
+    assert!(rt; left == expected);
     Ok(())
 }

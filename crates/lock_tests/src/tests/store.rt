@@ -1,107 +1,23 @@
-ghost use Rattle.std.specs.Prelude.{◌≡◌, ◌+◌, ◌<◌, [], length, OnOk, IfOk};
-ghost use Rattle.std.specs.Thread.{IsSync};
-ghost use Rattle.path_locks.specs.Views.{HoldsNothing, IsSeatAgain};
-ghost use Rattle.striped_store.specs.Views.{number_of_pass, IsNewPass, AreNewPasses, IsOf};
-
-use crate::callers::{Refused, footprint, narrowed, tallied};
-use commit_journal::{Full, Journal, Limits, NoKeep};
+use super::pass_pair::{PassPair, TallyPass};
+use crate::callers::{Refused, footprint, narrowed};
+use commit_journal::{Full, Journal, NoKeep};
 use lock_core::{Parted, Tally, TallyEntry};
 use std::alloc::{AllocError, Global};
 use std::sync::Wait;
 use std::test::Fail;
-use std::thread;
 use std::thread::Threads;
-use striped_store::{Closing, CommitRefusal, Pass, Receipt, Store};
+use striped_store::{Closing, CommitRefusal, Receipt};
 
-pub(super) type Passes = Vec<Pass<Tally, NoKeep>>;
-
-pub(super) fn opened(
-    alloc: Global,
-    passes: u32,
+/// What a store left behind.
+#[derive(Clone, Copy, Debug, PartialEq, Eq)]
+struct Left {
+    /// The entries of its journal, and the places for them.
     entries: u64,
-) -> Result<(Store<Tally, NoKeep>, Passes), Fail>
-    ensures many { IfOk result (λ r. length r.1.items ≡ r.0.seats) }
-    ensures new { IfOk result (λ r. AreNewPasses r.0 r.1.items) }
-{
-    let limits = Limits::new(passes, entries, 100, 1).ok_or("no limits")?;
-    Ok(Store::<Tally, NoKeep>::start(alloc, &limits, NoKeep)?)
-}
-
-/// The last of the new passes.
-pub(super) fn popped(
-    store: &Store<Tally, NoKeep>,
-    passes: &mut Passes,
-) -> Result<Pass<Tally, NoKeep>, Fail>
-    requires { AreNewPasses store.now passes.old.items }
-    ensures new { AreNewPasses store.now passes.new.items }
-    ensures fewer { OnOk result (length passes.new.items + 1 ≡ length passes.old.items) }
-    ensures last { IfOk result (λ p. IsNewPass store.now (length passes.new.items) p) }
-{
-    match passes.pop() {
-        Some(pass) => Ok(pass),
-        None => Err("no pass")?,
-    }
-}
-
-/// Commits the same entry fifty times.
-fn churned<R: Wait>(
-    rt: &R,
-    store: &Store<Tally, NoKeep>,
-    mut pass: Pass<Tally, NoKeep>,
-    reads: u8,
-    writes: u8,
-) -> Pass<Tally, NoKeep>
-    requires own { IsOf store.now pass }
-    requires nothing { HoldsNothing pass.seat }
-    requires stripes { (reads < 64) × (writes < 64) }
-    ensures same { IsSeatAgain pass.seat result.seat }
-    ensures nothing { HoldsNothing result.seat }
-{
-    for _round in 0..50u16 {
-        let _ = tallied(rt, store, &mut pass, reads, writes);
-    }
-    pass
-}
-
-/// Two threads commit, the second one between stripes so far above those of the first.
-fn both_churned<R: Threads + Wait + Sync>(
-    rt: &R,
-    store: &Store<Tally, NoKeep>,
-    first: Pass<Tally, NoKeep>,
-    second: Pass<Tally, NoKeep>,
-    apart: u8,
-) -> (Pass<Tally, NoKeep>, Pass<Tally, NoKeep>)
-    requires own { IsOf store.now first × IsOf store.now second }
-    requires nothing { HoldsNothing first.seat × HoldsNothing second.seat }
-    requires apart { apart < 60 }
-    ensures same { IsSeatAgain first.seat result.0.seat × IsSeatAgain second.seat result.1.seat }
-    ensures nothing { HoldsNothing result.0.seat × HoldsNothing result.1.seat }
-{
-    let low = move || -> Pass<Tally, NoKeep>
-        requires { IsSync R.row × IsOf store.now first × HoldsNothing first.seat }
-        ensures { IsSeatAgain first.seat result.seat × HoldsNothing result.seat }
-    { churned(rt, store, first, 1, 2) };
-    let high = move || -> Pass<Tally, NoKeep>
-        requires { IsSync R.row × IsOf store.now second × HoldsNothing second.seat × (apart < 60) }
-        ensures { IsSeatAgain second.seat result.seat × HoldsNothing result.seat }
-    { churned(rt, store, second, 2 + apart, 1 + apart) };
-    thread::join(rt, low, high)
-}
-
-/// Closes a store of two passes.
-pub(super) fn closed(
-    store: Store<Tally, NoKeep>,
-    mut passes: Passes,
-    first: Pass<Tally, NoKeep>,
-    second: Pass<Tally, NoKeep>,
-) -> Result<Closing<Tally, NoKeep>, Fail>
-    requires own { IsOf store first × IsOf store second }
-    requires nothing { HoldsNothing first.seat × HoldsNothing second.seat }
-    requires every { (store.seats ≡ 2) × (number_of_pass first ≡ 0) × (number_of_pass second ≡ 1) × (passes.items ≡ []) }
-{
-    passes.push(first)?;
-    passes.push(second)?;
-    Ok(store.close(passes))
+    places: u64,
+    /// The part of one stripe.
+    part: Option<u64>,
+    /// Whether the last entry that wrote a part left its number there, and 0 stands where none did.
+    is_replay: bool,
 }
 
 /// The 64 numbers after the entries: each entry's number stands where the last one wrote.
@@ -117,73 +33,163 @@ fn replayed(alloc: Global, journal: &Journal<TallyEntry>) -> Result<Vec<u64>, Al
     Ok(parts)
 }
 
-#[test]
-fn threads_commit_to_stripes_apart_and_together(rt: HostRuntime) -> Result<(), Fail> {
-    for apart in [0, 7] {
-        let (store, mut passes) = opened(rt.alloc(), 2, 1000)?;
-        let second = popped(&store, &mut passes)?;
-        let first = popped(&store, &mut passes)?;
-        assert!(rt; passes.is_empty());
-        let (first, second) = both_churned(&rt, &store, first, second, apart);
-        assert_eq!(rt; (first.number(), first.used(), first.wide()), (0, 0, 3));
-        assert_eq!(rt; (second.number(), second.used(), second.wide()), (1, 0, 3));
-        let closing = closed(store, passes, first, second)?;
-        let Closing { journal, parts, .. } = closing;
-        assert_eq!(rt; journal.len(), 100, "{apart}");
-        let expected = replayed(rt.alloc(), &journal)?;
-        assert_eq!(rt; parts, expected, "{apart}");
+fn left_by(
+    alloc: Global,
+    closing: &Closing<Tally, NoKeep>,
+    stripe: usize,
+) -> Result<Left, AllocError> {
+    let parts = replayed(alloc, &closing.journal)?;
+    Ok(Left {
+        entries: closing.journal.len(),
+        places: closing.journal.limits().journal_max(),
+        part: closing.parts.get(stripe).copied(),
+        is_replay: closing.parts == parts,
+    })
+}
+
+/// Closes the store, and answers what it left behind, with the part of the stripe.
+fn closed(alloc: Global, pair: PassPair, stripe: usize) -> Result<Left, AllocError> {
+    let closing = pair.close()?;
+    left_by(alloc, &closing, stripe)
+}
+
+/// The number of a pass, how many ids it used up, and how wide its last commit was.
+fn told(pass: &TallyPass) -> (u32, u64, u32) {
+    (pass.number(), pass.used(), pass.wide())
+}
+
+fn first_told(pair: &PassPair) -> (u32, u64, u32) {
+    told(&pair.first)
+}
+
+fn second_told(pair: &PassPair) -> (u32, u64, u32) {
+    told(&pair.second)
+}
+
+/// Two passes commit fifty times each in threads, in stripes so far apart.
+fn churned_apart<R: Threads + Wait + Sync>(rt: &R, pair: PassPair, apart: u8) -> PassPair {
+    pair.churn(rt, apart % 60)
+}
+
+/// What is left after a hundred commits, none of which wrote stripe 0.
+fn hundred_left() -> Left {
+    Left {
+        entries: 100,
+        places: 1000,
+        part: Some(0),
+        is_replay: true,
     }
+}
+
+#[test]
+fn threads_commit_to_stripes_apart(rt: HostRuntime) -> Result<(), Fail> {
+    let pair = churned_apart(&rt, PassPair::open(rt.alloc(), 1000)?, 7);
+    assert!(rt; first_told(&pair) == (0, 0, 3));
+    assert!(rt; second_told(&pair) == (1, 0, 3));
+    let found = closed(rt.alloc(), pair, 0)?;
+    assert!(rt; found == hundred_left());
     Ok(())
 }
 
 #[test]
+fn threads_commit_to_the_same_stripes(rt: HostRuntime) -> Result<(), Fail> {
+    let pair = churned_apart(&rt, PassPair::open(rt.alloc(), 1000)?, 0);
+    assert!(rt; first_told(&pair) == (0, 0, 3));
+    assert!(rt; second_told(&pair) == (1, 0, 3));
+    let found = closed(rt.alloc(), pair, 0)?;
+    assert!(rt; found == hundred_left());
+    Ok(())
+}
+
+/// A commit to the journal's one place, and one that finds it full.
+fn two_commits<R: Wait>(rt: &R, pair: &mut PassPair) -> (Option<Receipt>, Option<Refused>) {
+    let first = pair.first_commits(rt, 1, 2);
+    let second = pair.second_commits(rt, 2, 1);
+    (first.ok(), second.err())
+}
+
+#[test]
 fn a_full_store_refuses_and_hands_back(rt: HostRuntime) -> Result<(), Fail> {
-    let (store, mut passes) = opened(rt.alloc(), 2, 1)?;
-    let mut second = popped(&store, &mut passes)?;
-    let mut first = popped(&store, &mut passes)?;
-    assert!(rt; passes.is_empty());
     let receipt = Receipt {
         number: 1,
         shared: 2,
         exclusive: 4,
         rounds: 0,
     };
-    assert_eq!(rt; tallied(&rt, &store, &mut first, 1, 2), Ok(receipt));
     let refused = Refused {
         why: CommitRefusal::Full(Full::JournalFull),
         wide: 3,
         read: 1,
     };
-    assert_eq!(rt; tallied(&rt, &store, &mut second, 2, 1), Err(refused));
-    assert_eq!(rt; (first.wide(), second.wide()), (3, 0));
-    let Closing { journal, parts, .. } = closed(store, passes, first, second)?;
-    assert_eq!(rt; (journal.len(), journal.limits().journal_max()), (1, 1));
-    let expected = replayed(rt.alloc(), &journal)?;
-    assert_eq!(rt; parts, expected);
-    assert_eq!(rt; parts.get(2), Some(&1));
+    let mut pair = PassPair::open(rt.alloc(), 1)?;
+    assert!(rt; two_commits(&rt, &mut pair) == (Some(receipt), Some(refused)));
+    assert!(rt; first_told(&pair) == (0, 0, 3));
+    assert!(rt; second_told(&pair) == (1, 0, 0));
+    let found = closed(rt.alloc(), pair, 2)?;
+    let expected = Left {
+        entries: 1,
+        places: 1,
+        part: Some(1),
+        is_replay: true,
+    };
+    assert!(rt; found == expected);
     Ok(())
 }
 
+/// A commit of the first pass.
+fn one_commit<R: Wait>(rt: &R, pair: &mut PassPair) -> bool {
+    pair.first_commits(rt, 1, 2).is_ok()
+}
+
 #[test]
-fn a_pass_narrows_and_finishes(rt: HostRuntime) -> Result<(), Fail> {
-    let (store, mut passes) = opened(rt.alloc(), 2, 9)?;
-    let second = popped(&store, &mut passes)?;
-    let mut first = popped(&store, &mut passes)?;
-    assert!(rt; passes.is_empty());
-    let held = store.begin(&rt, &mut first, &footprint(0, 63));
-    assert_eq!(rt; held.wide(), 3);
-    store.finish(&mut first, held);
-    assert_eq!(rt; first.wide(), 0);
+fn a_pass_tells_of_its_last_commit(rt: HostRuntime) -> Result<(), Fail> {
+    let mut pair = PassPair::open(rt.alloc(), 9)?;
+    assert!(rt; first_told(&pair) == (0, 0, 0));
+    assert!(rt; one_commit(&rt, &mut pair));
+    assert!(rt; first_told(&pair) == (0, 0, 3));
+    Ok(())
+}
+
+/// How wide the footprint of an entry is, which is held and given back without a commit.
+fn begun<R: Wait>(rt: &R, pair: &mut PassPair) -> u32 {
+    let plan = footprint(0, 63);
+    let held = pair.store.begin(rt, &mut pair.first, &plan);
+    let wide = held.wide();
+    pair.store.finish(&mut pair.first, held);
+    wide
+}
+
+#[test]
+fn a_pass_begins_and_finishes(rt: HostRuntime) -> Result<(), Fail> {
+    let mut pair = PassPair::open(rt.alloc(), 9)?;
+    assert!(rt; begun(&rt, &mut pair) == 3);
+    assert!(rt; first_told(&pair) == (0, 0, 0));
+    Ok(())
+}
+
+/// A commit of the first pass, which first held every stripe.
+fn narrow_commit<R: Wait>(rt: &R, pair: &mut PassPair) -> Option<Receipt> {
+    narrowed(rt, &pair.store, &mut pair.first, 0, 63)
+}
+
+#[test]
+fn a_pass_narrows(rt: HostRuntime) -> Result<(), Fail> {
     let receipt = Receipt {
         number: 1,
         shared: 1,
         exclusive: 9_223_372_036_854_775_808,
         rounds: 0,
     };
-    assert_eq!(rt; narrowed(&rt, &store, &mut first, 0, 63), Some(receipt));
-    assert_eq!(rt; first.wide(), 128);
-    let Closing { journal, parts, .. } = closed(store, passes, first, second)?;
-    assert_eq!(rt; journal.len(), 1);
-    assert_eq!(rt; parts.get(63), Some(&1));
+    let mut pair = PassPair::open(rt.alloc(), 9)?;
+    assert!(rt; narrow_commit(&rt, &mut pair) == Some(receipt));
+    assert!(rt; first_told(&pair) == (0, 0, 128));
+    let found = closed(rt.alloc(), pair, 63)?;
+    let expected = Left {
+        entries: 1,
+        places: 9,
+        part: Some(1),
+        is_replay: true,
+    };
+    assert!(rt; found == expected);
     Ok(())
 }

@@ -1,5 +1,0 @@
-use Rattle.path_locks.specs.Views.{HoldsNothing, IsSeatAgain}
-use Rattle.lock_speed.proofs.churned.Given as goal
-
-abbrev pub invariant-loop-round : goal.invariant-loop-round
-invariant-loop-round g l = IsSeatAgain l.fn.pass.seat l.pass.seat × HoldsNothing l.pass.seat

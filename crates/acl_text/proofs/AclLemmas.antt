@@ -62,7 +62,7 @@ has-retain_keys m p q stays h =
 -- ---- the entries of a list, put in turn
 
 abbrev step : Scope → AclMap → Scope × Who × ℕ → AclMap
-step default m e = cond (in_scope default e.0) (fin.insert m e.1 e.2) m
+step scope m e = cond (in_scope scope e.0) (fin.insert m e.1 e.2) m
 
 has-step : (b : Bool) (m : AclMap) (k : Who) (v : ℕ) (q : Who) → IsSome (fin.get m q) → IsSome (fin.get (cond b (fin.insert m k v) m) q)
 has-step true m k v q h = has-insert m k v q h

@@ -18,18 +18,18 @@ use Rattle.acl_text.specs.AclMaps.{AclMap, map_of, masked, base_of}
 
 -- whether a list of entries has one in a scope, and whether it has the mask there
 abbrev pub names : Scope → List (Scope × Who × ℕ) → Bool
-names default list = list_any (λ e. in_scope default e.0) list
+names scope list = list_any (λ e. in_scope scope e.0) list
 
 abbrev pub gives_mask : Scope → List (Scope × Who × ℕ) → Bool
-gives_mask default list = list_any (λ e. in_scope default e.0 && is_mask e.1) list
+gives_mask scope list = list_any (λ e. in_scope scope e.0 && is_mask e.1) list
 
 -- each entry of a scope in turn replaces the one of its who, or is added
 abbrev pub given_in : Scope → List (Scope × Who × ℕ) → AclMap → AclMap
-given_in default list m = fold (λ m e. if in_scope default e.0 then fin.insert m e.1 e.2 else m) m list
+given_in scope list m = fold (λ m e. if in_scope scope e.0 then fin.insert m e.1 e.2 else m) m list
 
 -- a scope after a change: as it was where the list doesn't name it
 abbrev pub changed_scope : Scope → List (Scope × Who × ℕ) → AclMap → AclMap
-changed_scope default list m = if names default list then masked (gives_mask default list) (given_in default list m) else m
+changed_scope scope list m = if names scope list then masked (gives_mask scope list) (given_in scope list m) else m
 
 -- what a default ACL starts from: itself, or the three base entries of the access ACL
 abbrev pub default_start : Option AclMap → AclMap → AclMap
@@ -75,17 +75,17 @@ acl_set list = set_where_complete (missing_in (given_in Access list fin.empty)) 
 
 -- whether a list of items to remove has one in a scope, and whether it has one for someone there
 abbrev pub names_item : Scope → List (Scope × Who) → Bool
-names_item default list = list_any (λ e. in_scope default e.0) list
+names_item scope list = list_any (λ e. in_scope scope e.0) list
 
 abbrev pub lists : Scope → List (Scope × Who) → Who → Bool
-lists default list who = list_any (λ e. in_scope default e.0 && eq_by_cmp who_cmp e.1 who) list
+lists scope list who = list_any (λ e. in_scope scope e.0 && eq_by_cmp who_cmp e.1 who) list
 
 -- the base entries, and what isn't listed
 abbrev pub without : Scope → List (Scope × Who) → AclMap → AclMap
-without default list m = fin.retain_keys m (λ who. is_base who || not (lists default list who))
+without scope list m = fin.retain_keys m (λ who. is_base who || not (lists scope list who))
 
 abbrev pub removed_scope : Scope → List (Scope × Who) → AclMap → AclMap
-removed_scope default list m = if names_item default list then masked false (without default list m) else m
+removed_scope scope list m = if names_item scope list then masked false (without scope list m) else m
 
 -- a list with all three base entries of the default scope drops the default ACL
 abbrev pub drops_default : List (Scope × Who) → Bool

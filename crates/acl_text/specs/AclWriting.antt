@@ -14,7 +14,7 @@ use Rattle.acl_text.specs.AclTexts.{entry_text}
 
 -- the entries of one scope as entries of a text
 abbrev pub scoped : Scope → List (Who × ℕ) → List (Scope × Who × ℕ)
-scoped default es = map (λ e. (default, e.0, e.1)) es
+scoped scope es = map (λ e. (scope, e.0, e.1)) es
 
 -- the entries of a default ACL, none where there is no default ACL
 abbrev pub default_entries : Option (List (Who × ℕ)) → List (Scope × Who × ℕ)

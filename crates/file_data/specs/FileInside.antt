@@ -8,18 +8,18 @@ use Rattle.file_data.specs.declared.data.FileData.TheInside.{Inside}
 -- or none
 abbrev pub record_of : Inside → FileRecord
 record_of a = record {
-  committed = bytes_of a.extents.items;
-  extents = a.extents.items;
+  committed = bytes_of a.extents.extents;
+  extents = a.extents.extents;
   staged = a.staged.items;
   stage_room = vec_capacity a.staged - vec_len a.staged;
   flush_room = a.flush_room;
 }
 
--- the file is as it has to be, its length is kept beside the extents, and where there is room for a flush all staged
--- pieces can become extents
+-- the file is as it has to be, its length is kept beside the extents, and where there is room for a flush the staged
+-- pieces stand behind the extents
 pub record IsInside (a : Inside) : Type 0 where
-  pub file : IsFile (bytes_of a.extents.items) a.staged.items
-  pub extents : AreExtents (bytes_of a.extents.items) a.extents.items
-  pub len : a.len ≡ length (bytes_of a.extents.items)
+  pub file : IsFile (bytes_of a.extents.extents) a.staged.items
+  pub extents : AreExtents (bytes_of a.extents.extents) a.extents.extents
+  pub len : a.len ≡ length (bytes_of a.extents.extents)
   pub room : a.flush_room ≤ 1
-  pub ready : 0 < a.flush_room → vec_len a.extents + vec_len a.staged ≤ vec_capacity a.extents
+  pub ready : 0 < a.flush_room → a.extents.ahead ≡ a.staged.items

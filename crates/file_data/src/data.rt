@@ -1,11 +1,12 @@
 ghost use Rattle.std.specs.Prelude.{◌≡◌, ℕ, ◌+◌, ◌++◌, ◌<◌, ◌≤◌, List, length, slice_range, IfOk, OnOk, OnErr, IsOk, ◌↔◌};
 ghost use Rattle.file_data.specs.FileRecord.{FileRecord, file_max, bare_file, IsFile, AreExtents, SameButRoom, OnlyGainsRoom, stage_answer, staged_with, flush_answer, flushed, CanFlush, append_flush_answer};
 
+use super::extent_list::ExtentList;
 use super::extents::append_range;
 use super::fault::DataFault;
 use super::shared_piece::SharedPiece;
 use super::walk::{
-    append_trouble, clear_unless, copy_pieces, count_below, move_pieces, put_piece, trouble,
+    append_trouble, clear_unless, copy_pieces, count_below, drop_first, put_piece, trouble,
 };
 use std::alloc::{AllocError, Global};
 use std::marker::Model;
@@ -14,11 +15,13 @@ use std::marker::Model;
 pub const FILE_MAX: u64 = 268_435_456;
 
 /// The bytes of a file, and the pieces that were appended to it and not flushed yet. The bytes are kept as extents, which
-/// are the pieces that were flushed.
+/// are the pieces that were flushed. The list of the extents is shared by a file and its copies, until one of them is
+/// flushed.
 #[derive(Drop)]
 pub struct FileData {
+    alloc: Global,
     len: u64,
-    extents: Vec<(u64, SharedPiece)>,
+    extents: ExtentList,
     staged: Vec<(u64, SharedPiece)>,
     flush_room: u64,
 }
@@ -42,8 +45,9 @@ impl FileData {
         ensures { result ≡ bare_file }
     {
         FileData {
+            alloc,
             len: 0,
-            extents: Vec::new(alloc),
+            extents: ExtentList::new(),
             staged: Vec::new(alloc),
             flush_room: 0,
         }
@@ -66,14 +70,17 @@ impl FileData {
         self.staged.reserve(1)
     }
 
-    /// Makes room for one call of `flush`, at any position. The one error is want of memory; it may leave more room
-    /// than before. A `stage` uses this room up.
+    /// Makes room for one call of `flush`, at any position. The one error is want of memory, or that no more owners of a
+    /// piece can be counted; it may leave more room than before. A `stage` uses this room up. Where copies have the same
+    /// extents, a list of its own is made: owners are counted once for each extent, and no byte is copied.
     pub fn reserve_flush(&mut self) -> Result<(), AllocError>
         ensures room { OnOk result (0 < self.new.flush_room) }
         ensures same { OnlyGainsRoom self.old self.new }
     {
-        self.extents.reserve(self.staged.len())?;
-        self.flush_room = 1;
+        if self.flush_room == 0 {
+            self.extents.prepare(self.alloc, self.staged.as_slice())?;
+            self.flush_room = 1;
+        }
         Ok(())
     }
 
@@ -152,7 +159,8 @@ impl FileData {
     {
         self.can_flush(position)?;
         let count = count_below(self.staged.as_slice(), position);
-        move_pieces(&mut self.extents, &mut self.staged, count);
+        self.extents.take_up(count);
+        drop_first(&mut self.staged, count);
         clear_unless(&mut self.staged, retain);
         self.len = position;
         self.flush_room = 0;
@@ -167,18 +175,20 @@ impl FileData {
         ensures err { OnErr result (out.new.items ≡ out.old.items) }
     {
         out.reserve(n as usize)?;
-        append_range(self.extents.as_slice(), from, from + n, out);
+        append_range(self.extents.extents(), from, from + n, out);
         Ok(())
     }
 
-    /// Another file with the same extents and pieces, and the same room. They are shared, and no byte is copied. The one
-    /// error is want of memory, or that no more owners of a piece can be counted.
+    /// Another file with the same extents and pieces, and the same room. The list of the extents is shared as a whole, so
+    /// that a copy takes the same time however many there are; owners are counted for each staged piece, and no byte is
+    /// copied. The one error is want of memory, or that no more owners can be counted.
     pub fn copy(&self, alloc: Global) -> Result<FileData, AllocError>
         ensures { IfOk result (λ file. file ≡ self.now) }
     {
         Ok(FileData {
+            alloc,
             len: self.len,
-            extents: copy_pieces(alloc, &self.extents)?,
+            extents: self.extents.copy()?,
             staged: copy_pieces(alloc, &self.staged)?,
             flush_room: self.flush_room,
         })

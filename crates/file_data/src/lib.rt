@@ -24,6 +24,7 @@
 #![tactic(auto)]
 
 mod data;
+mod extent_list;
 mod extents;
 mod fault;
 pub mod laws;

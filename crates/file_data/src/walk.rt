@@ -1,4 +1,4 @@
-ghost use Rattle.std.specs.Prelude.{◌≡◌, ℕ, ◌+◌, ◌++◌, ◌<◌, ◌≤◌, List, [], length, nat_lt, reverse, take, drop, vec_len, vec_capacity, if◌then◌else◌, All, IfOk};
+ghost use Rattle.std.specs.Prelude.{◌≡◌, ℕ, ◌+◌, ◌<◌, ◌≤◌, List, [], length, nat_lt, take, drop, vec_len, vec_capacity, if◌then◌else◌, All, IfOk};
 ghost use Rattle.file_data.specs.Staging.{pieces_below, pieces_from, pieces_above, with_piece, Ascends, first_trouble, end_of};
 ghost use Rattle.file_data.specs.Troubles.{met_by_piece};
 ghost use Rattle.file_data.specs.FileRecord.{file_max};
@@ -93,44 +93,15 @@ fn first_inside(pieces: &[(u64, SharedPiece)], position: u64, end: u64) -> Optio
     Some(DataFault::Overlap(start))
 }
 
-// Moves the first staged pieces behind the extents, for which there is room. They are taken from the end of the list
-// while it is turned round.
-pub(crate) fn move_pieces(
-    extents: &mut Vec<(u64, SharedPiece)>,
-    staged: &mut Vec<(u64, SharedPiece)>,
-    count: usize,
-)
-    requires within { count ≤ vec_len staged.old }
-    requires room { vec_len extents.old + count ≤ vec_capacity extents.old }
-    ensures extents { extents.new.items ≡ extents.old.items ++ take count staged.old.items }
-    ensures staged { staged.new.items ≡ drop count staged.old.items }
-    ensures len { vec_len staged.new ≤ vec_len staged.old }
-    ensures room { vec_capacity staged.new ≡ vec_capacity staged.old }
+// Drops the first pieces.
+pub(crate) fn drop_first(pieces: &mut Vec<(u64, SharedPiece)>, count: usize)
+    requires within { count ≤ vec_len pieces.old }
+    ensures items { pieces.new.items ≡ drop count pieces.old.items }
+    ensures len { vec_len pieces.new ≤ vec_len pieces.old }
+    ensures room { vec_capacity pieces.new ≡ vec_capacity pieces.old }
 {
-    staged.reverse();
-    for _piece in 0..count {
-        move_last(extents, staged);
-    }
-    staged.reverse();
-}
-
-// Moves the last staged piece behind the extents, for which there is room.
-fn move_last(extents: &mut Vec<(u64, SharedPiece)>, staged: &mut Vec<(u64, SharedPiece)>)
-    requires filled { 0 < vec_len staged.old }
-    requires room { vec_len extents.old < vec_capacity extents.old }
-    ensures items { extents.new.items ++ reverse staged.new.items ≡ extents.old.items ++ reverse staged.old.items }
-    ensures added { vec_len extents.new ≡ vec_len extents.old + 1 }
-    ensures taken { vec_len staged.new + 1 ≡ vec_len staged.old }
-    ensures extents_room { vec_capacity extents.old ≤ vec_capacity extents.new }
-    ensures staged_room { vec_capacity staged.new ≡ vec_capacity staged.old }
-{
-    match staged.pop() {
-        Some(piece) => match extents.push(piece) {
-            Ok(()) => {}
-            Err(_) => unreachable!(),
-        },
-        None => unreachable!(),
-    }
+    pieces.rotate_left(count);
+    pieces.truncate(pieces.len() - count);
 }
 
 // Puts a piece in its place, for which there is room.

@@ -1,5 +1,5 @@
 -- What holds of names holds of the texts that are made of them, and what holds of a text holds of its parts.
-use Rattle.std.proofs.Common.{◌≡◌, ℕ, zero, suc, ◌+◌, ◌/◌, ◌%◌, ◌<◌, ◌≤◌, ◌⊎◌, inl, inr, Bool, true, false, not, ◌&&◌, ◌||◌, cond, ltb, nat_le, bytes_eq, List, [], ◌∷◌, ◌++◌, length, get_or, take, IsUtf8, lit<, refl, sym, ap, ◌∙◌, subst, ⊎_elim, length-append, arith}
+use Rattle.std.proofs.Common.{◌≡◌, ℕ, zero, suc, ◌+◌, ◌/◌, ◌%◌, ◌<◌, ◌≤◌, ◌⊎◌, inl, inr, Bool, true, false, not, ◌&&◌, ◌||◌, cond, ltb, nat_le, nat_lt, bytes_eq, List, [], ◌∷◌, ◌++◌, length, get_or, take, IsUtf8, lit<, refl, sym, ap, ◌∙◌, subst, ⊎_elim, length-append, arith}
 use Rattle.std.specs.List.{list_all, join_with_byte}
 use Rattle.std.specs.Str.{IsAscii, IsCharBoundary, is_utf8}
 use Rattle.std.proofs.lemmas.Bool.{cases_Bool}
@@ -10,7 +10,7 @@ use Rattle.std.proofs.lemmas.Str.{IsUtf8-nil, IsUtf8-append, IsUtf8-drop, IsUtf8
 use Rattle.std.proofs.Math.Seq.{drop-append_seam, take-append_seam}
 use Rattle.std.proofs.Math.Utf8.{encode, encodes, scalar, scalar_cases, scalars}
 use Rattle.path_text.specs.Names.{are_parts, has_single_hyphens, is_clear, is_control, is_dots, is_fs_byte, is_fs_name, is_name, is_slash}
-use Rattle.path_text.specs.Texts.{is_byte, path_text}
+use Rattle.path_text.specs.Texts.{path_text}
 use Rattle.path_text.proofs.PlaceLemmas.{both_parts}
 
 -- ---- a name
@@ -136,6 +136,9 @@ pub path_control : (path : List (List ℕ)) → are_parts path ≡ true → list
 path_control path e = join_control path (parts_are_names path e)
 
 -- ---- UTF-8 has bytes
+
+abbrev pub is_byte : ℕ → Bool
+is_byte b = nat_lt b 256
 
 byte : (b : ℕ) → b < 256 → is_byte b ≡ true
 byte b small = grind (arith, nat_tests)

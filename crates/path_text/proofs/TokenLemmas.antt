@@ -11,10 +11,10 @@ use Rattle.base64.specs.declared.decode.DecodeError.{DecodeError}
 use Rattle.base64.specs.Engines.{standard}
 use Rattle.base64.specs.GeneralPurpose.{IsBytes, decode_of, decoded_of, encode_of}
 use Rattle.base64.proofs.EngineFacts.{decode_of-encode_of, decode_of_strict}
-use Rattle.path_text.specs.Texts.{KeepsLimits, Spells, is_byte, path_text, plain_path}
+use Rattle.path_text.specs.Texts.{KeepsLimits, Spells, path_text, plain_path}
 use Rattle.path_text.specs.Tokens.{IsToken, full_text, path_if_said, is_on_page, path_said, token_bytes, token_path, token_text}
 use Rattle.path_text.proofs.PlaceLemmas.{both_parts}
-use Rattle.path_text.proofs.NameLemmas.{path_bytes}
+use Rattle.path_text.proofs.NameLemmas.{is_byte, path_bytes}
 use Rattle.path_text.proofs.ReadLemmas.{spelled_is_read}
 
 -- ---- bytes

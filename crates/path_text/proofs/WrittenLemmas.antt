@@ -8,10 +8,10 @@ use Rattle.std.proofs.lemmas.Bool.Decides.{nat_tests, eqb_tells}
 use Rattle.std.proofs.lemmas.List.Folds.{list_all-append}
 use Rattle.percent_encoding.specs.Percent.{percent_decode, percent_encode_byte}
 use Rattle.percent_encoding.proofs.PercentLemmas.{percent_decode-nil, percent_decode_not_percent, percent_decode-percent_encode_byte}
-use Rattle.path_text.specs.Texts.{is_byte, path_text, KeepsLimits}
+use Rattle.path_text.specs.Texts.{path_text, KeepsLimits}
 use Rattle.path_text.specs.Targets.{bad_escape, begins_badly, is_question_mark, is_unreserved, escaped, escaped_byte, written_path}
 use Rattle.path_text.proofs.PlaceLemmas.{both_parts}
-use Rattle.path_text.proofs.NameLemmas.{path_bytes}
+use Rattle.path_text.proofs.NameLemmas.{is_byte, path_bytes}
 
 -- a text without a bad escape and without `?`, and what it is decoded to
 pub record Clean (text bytes : List ℕ) : Type 0 where

@@ -20,9 +20,6 @@ path_text path = 47 ∷ join_with_byte 47 path
 abbrev pub Spells : List ℕ → List (List ℕ) → Type 0
 Spells text path = (text ≡ path_text path) ⊎ (text ≡ path_text path ++ 47 ∷ [])
 
-abbrev pub is_byte : ℕ → Bool
-is_byte b = nat_lt b 256
-
 -- the path keeps the limits: its names, how many bytes its text has without the `/` at the front, and how many parts it has
 pub record KeepsLimits (path : List (List ℕ)) : Type 0 where
   pub parts : are_parts path ≡ true

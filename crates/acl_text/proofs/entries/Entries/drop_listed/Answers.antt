@@ -10,7 +10,7 @@ use Rattle.acl_text.proofs.EntryLemmas.{kept_sorted, held_kept, map-kept}
 use Rattle.acl_text.proofs.entries.Entries.drop_listed.Goals as goal
 
 abbrev stays : Scope → List (Scope × Who) → Who → Bool
-stays default listed who = is_base who || not (lists default listed who)
+stays scope listed who = is_base who || not (lists scope listed who)
 
 pub invariant_of-self : goal.invariant_of-self
 invariant_of-self c =

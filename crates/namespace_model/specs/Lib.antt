@@ -43,4 +43,5 @@ pub mod DenialPlaces
 pub mod Lines
 pub mod Told
 pub mod NamedNodes
+pub mod Apart
 pub mod Worked

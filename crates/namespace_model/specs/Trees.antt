@@ -3,6 +3,7 @@ use Rattle.std.specs.Prelude.{ℕ, ◌+◌, ◌==◌, Bool, ◌&&◌, nat_lt, Li
 use Rattle.std.specs.FinMap as fin
 use Rattle.std.specs.FinMap.{FinMap}
 use Rattle.path_text.specs.Paths.{path_cmp, is_prefix}
+pub use Rattle.path_text.specs.Paths.{parent}
 use Rattle.path_text.specs.Texts.{KeepsLimits}
 use Rattle.namespace_model.specs.Nodes.{Node, is_directory, account, blank}
 
@@ -22,12 +23,6 @@ node_at t p = unwrap_or (at t p) blank
 -- the account alone
 unfoldable pub opening_tree : Tree
 opening_tree = fin.insert fin.empty [] account
-
--- the path without its last name; the account has no parent, and stands for it
-abbrev pub parent : Path → Path
-parent [] = []
-parent (n ∷ []) = []
-parent (n ∷ m ∷ p) = n ∷ parent (m ∷ p)
 
 -- one name below d
 abbrev pub is_child : Path → Path → Bool

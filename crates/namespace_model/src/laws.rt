@@ -13,6 +13,7 @@ ghost use Rattle.namespace_model.specs.Trees.{Path, Tree, at, IsDirectoryAt, IsT
 ghost use Rattle.namespace_model.specs.Locality.{Among, IsLocal, IsClosed};
 ghost use Rattle.namespace_model.specs.Quiet.{IsQuiet};
 ghost use Rattle.namespace_model.specs.DenialPlaces.{DeniesInPlace};
+ghost use Rattle.namespace_model.specs.Apart.{IsIn, IsOn, AgreeOn, AlikeOn, AskNoNumber, SameButNumbers};
 ghost use Rattle.namespace_model.specs.Denials.{DeniesRightly, NamesDenials};
 ghost use Rattle.namespace_model.specs.Lines.{AreInOrder, open_tags};
 ghost use Rattle.namespace_model.specs.NamedNodes.{PutsNamed};
@@ -104,6 +105,22 @@ pub fn replies_tell_what_is()
 /// After the step it stands there with the entry's number and moment.
 pub fn successes_put_what_is_named()
     ensures { (t : Tree) (e : Entry) (number : ℕ) → IsTree t → IsSound e.request → (step t e number).reply.code ≡ None → PutsNamed t e number (step t e number).tree }
+{}
+
+/// A request on one filesystem, any but a listing of filesystems, sees the account's node and that filesystem alone, and changes that filesystem
+/// alone. It sees no number but by its conditions: where these ask for none, two trees that are alike there but for the numbers of nodes give
+/// replies that are the same but for these, and are alike again after steps under any two numbers. A rename has both its paths in one filesystem.
+pub fn filesystems_are_apart()
+    ensures sees { (fs : List ℕ) (s t : Tree) (e : Entry) → IsOn fs e.request.op → AgreeOn fs s t → outcome s e ≡ outcome t e }
+    ensures agrees { (fs : List ℕ) (s t : Tree) (e : Entry) (number : ℕ) → IsTree s → IsSound e.request → IsOn fs e.request.op → AgreeOn fs s t
+        → AgreeOn fs (step s e number).tree (step t e number).tree }
+    ensures others { (fs : List ℕ) (t : Tree) (e : Entry) (number : ℕ) → IsOn fs e.request.op → (q : Path) → ¬ IsIn fs q → at (step t e number).tree q ≡ at t q }
+    ensures no_number { (fs : List ℕ) (s t : Tree) (e : Entry) → IsOn fs e.request.op → AskNoNumber e.request.cond → AlikeOn fs s t
+        → SameButNumbers e.request.op (outcome s e).reply (outcome t e).reply }
+    ensures alike { (fs : List ℕ) (s t : Tree) (e : Entry) (n m : ℕ) → IsTree s → IsSound e.request → IsOn fs e.request.op → AskNoNumber e.request.cond
+        → AlikeOn fs s t → AlikeOn fs (step s e n).tree (step t e m).tree }
+    ensures moves { (fs : List ℕ) (e : Entry) (path source : Path) (props : Option (List (List ℕ × List ℕ))) → IsSound e.request
+        → e.request.op ≡ op.Rename path source props → IsIn fs path → IsIn fs source }
 {}
 
 /// Steps of worked conversations, from eight operations.

@@ -1,16 +1,12 @@
--- The draft of a request that was refused when it was decoded, and what a delete is asked for.
-use Rattle.std.proofs.Common.{[], Bool, refl, ap, subst, ◌≡◌, ◌∙◌, ℕ}
+-- The draft of a request that was refused when it was decoded.
+use Rattle.std.proofs.Common.{[], refl, ap, ◌≡◌, ◌∙◌, ℕ}
 use Rattle.std.proofs.lemmas.Bool.{false≢true}
 use Rattle.namespace_model.specs.declared.code.Code.{Code}
-use Rattle.namespace_model.specs.declared.op.Op.{Op}
 use Rattle.namespace_model.specs.declared.op.Op.TheVariants as op
 use Rattle.namespace_model.specs.declared.request.Request.{Request}
 use Rattle.namespace_model.specs.Replies.{refusal}
 use Rattle.namespace_model.specs.Sound.{IsSound}
 use Rattle.namespace_model.specs.Step.{acts}
-use Rattle.namespace_model.specs.Trees.{Path}
-use Rattle.op_decode.specs.Built.{IsBuilt, HasBuiltHeaders, HasBuiltHeadersFor}
-use Rattle.op_delete.specs.Removals.{IsPlain}
 use Rattle.inode_tree.specs.declared.draft.Draft.{Draft}
 use Rattle.inode_tree.specs.declared.fresh.Fresh.{Fresh}
 use Rattle.inode_tree.specs.Promises.{IsDraft}
@@ -24,9 +20,3 @@ pub refused_draft : (held : Held) (shown : Shown) (request : Request) (moment : 
 refused_draft held shown request moment fresh c d asked sound is =
     answer_is_draft held shown request moment fresh (refusal c) [] d sound (λ id h. absurd (false≢true h)) is
     (λ parts t e possible of. ([], ap (λ (r : Request). acts t e.entry r.op) of.asks ∙ ap (acts t e.entry) asked, λ id. refl))
-
--- a delete that is built is the superuser's, without conditions and a lease id
-pub plain_delete : (request : Request) (path : Path) (recursive : Bool) → request.op ≡ op.Delete path recursive → IsBuilt request → IsPlain request
-plain_delete request path recursive is built =
-    let h : HasBuiltHeaders request = subst (λ (o : Op). HasBuiltHeadersFor o request) is built.headers in
-    record { caller = h.caller; conditions = h.conditions; lease = h.lease }

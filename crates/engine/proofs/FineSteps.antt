@@ -1,5 +1,5 @@
--- The reply of a step that is built can be spelled, and the step makes at most 60 nodes.
-use Rattle.std.proofs.Common.{◌≡◌, ℕ, suc, ◌≤◌, Bool, true, false, cond, not, ◌&&◌, is_some, List, [], ◌∷◌, ◌++◌, map, length, drop, length-drop, Option, Some, None, Result, Ok, Err, lit≤, lit<, refl, ap, arith}
+-- The reply of a step that is built can be spelled.
+use Rattle.std.proofs.Common.{◌≡◌, ℕ, ◌≤◌, Bool, true, false, cond, not, ◌&&◌, is_some, List, [], ◌∷◌, length, Option, Some, None, Result, Ok, Err, lit≤, lit<, refl, arith}
 use Rattle.std.specs.Option.{option_map_or}
 use Rattle.std.specs.Prelude.{IfSome}
 use Rattle.lease_state.specs.declared.lease.TheConstants.{LAST_MOMENT}
@@ -21,37 +21,38 @@ use Rattle.namespace_model.specs.declared.op.Op.TheVariants as op
 use Rattle.namespace_model.specs.declared.reply.Reply.{Reply}
 use Rattle.namespace_model.specs.declared.request.Entry.{Entry}
 use Rattle.op_decode.specs.Built.{IsBuilt, IsBuiltOperation}
-use Rattle.namespace_model.specs.Create.{Making, new_directory, new_nodes, made_below, create, create_over, create_new, create_in, create_under, create_from}
+use Rattle.namespace_model.specs.Create.{Making, made_below, create, create_over, create_new, create_in, create_under, create_from}
 use Rattle.namespace_model.specs.CreateFilesystem.{create_filesystem, filesystem_made}
 use Rattle.namespace_model.specs.Delete.{not_clearable, gone, cleared, delete_node, delete_in, delete}
-use Rattle.namespace_model.specs.Effects.{Put}
 use Rattle.namespace_model.specs.GetProperties.{length_fields, user_fields, access_fields, properties_shown, properties_of, get_properties}
 use Rattle.namespace_model.specs.Nodes.{Node, Content, directory, file, is_directory, has_kind, kind_of}
 use Rattle.namespace_model.specs.Outcomes.{Outcome, answered, refused, reading, unless, noted}
 use Rattle.namespace_model.specs.Refusals.{caller_of, code_of_fault, denied_by, deny_unless, refuse_if, unmet_for_change, unmet_for_look, refused_by_lease, or_else, first_refusal, lacks, is_guarded, is_no_superuser, exists_already, is_unmet, is_unmet_look, is_unmet_without, lease_refuses}
 use Rattle.namespace_model.specs.Replies.{success, stamp_fields, lease_fields}
-use Rattle.namespace_model.specs.Sound.{IsSound, IsOperation}
 use Rattle.namespace_model.specs.Step.{acts, outcome}
 use Rattle.namespace_model.specs.Trees.{Path, Tree, at, node_at, parent, is_bare, children, subtree}
 use Rattle.namespace_model.specs.Walks.{ended, hand_on, walk, walk_or, missing_below, missing_code}
 use Rattle.namespace_model.specs.Ways.{Way, reached, missing, blocked, closed, way_of, read_on}
 use Rattle.reply_text.specs.ReplyText.{CanSpell}
 use Rattle.reply_text.proofs.Spellable.{AreClosed, closed_none, closed_more, closed_append, closed_properties, closed_lease, closing_spelled, refusal_spelled, not_modified_spelled, denial_spelled, stamped_spelled, shown_spelled, plain_spelled}
-use Rattle.engine.specs.Solos.{HasDates}
+use Rattle.inode_tree.specs.Footprints.{HasDate}
+use Rattle.parted_namespace.specs.Journals.{HasDates}
 
--- the reply can be spelled, and few nodes are made
+-- the reply can be spelled
 pub record IsFine (o : Outcome) : Type 0 where
   pub spelled : CanSpell o.reply
-  pub few : length o.fresh ≤ 60
+
+dated : (moment : ℕ) → HasDate moment → moment ≤ LAST_MOMENT
+dated moment has = let last : LAST_MOMENT ≡ 253402300799999 = refl in omega (arith, has, last)
 
 answered_fine : (r : Reply) → CanSpell r → IsFine (answered r)
-answered_fine r can = record { spelled = can; few = lit≤ tt }
+answered_fine r can = record { spelled = can }
 
 refused_fine : (c : Code) → IsFine (refused c)
 refused_fine c = answered_fine _ (refusal_spelled c)
 
 reading_fine : (ps : List Path) (o : Outcome) → IsFine o → IsFine (reading ps o)
-reading_fine ps o fine = record { spelled = fine.spelled; few = fine.few }
+reading_fine ps o fine = record { spelled = fine.spelled }
 
 unless_fine : (q : Option Reply) (o : Outcome) → IfSome q CanSpell → IsFine o → IsFine (unless q o)
 unless_fine None o can fine = fine
@@ -139,47 +140,39 @@ module _ (t : Tree) (e : Entry) (timely : e.moment ≤ LAST_MOMENT) where
   filesystem_fine p props =
       unless_fine (is_no_superuser (caller_of e) p) _ (deny_fine (is_superuser (caller_of e)) rule.SuperuserOnly p)
       (reading_fine ([] ∷ []) _
-      (unless_fine (refuse_if (is_some (at t p)) code.FilesystemAlreadyExists) (filesystem_made e p props) (refuse_fine (is_some (at t p)) code.FilesystemAlreadyExists) (record { spelled = made_spelled; few = lit≤ tt })))
+      (unless_fine (refuse_if (is_some (at t p)) code.FilesystemAlreadyExists) (filesystem_made e p props) (refuse_fine (is_some (at t p)) code.FilesystemAlreadyExists) (record { spelled = made_spelled })))
 
-  many_new : (m : Making) (above : Node) (done names : Path) → length (map (λ (x : Path × Put). x.0) (new_nodes e m above done names)) ≡ length names
-  many_new m above done [] = refl
-  many_new m above done (n ∷ []) = refl
-  many_new m above done (n ∷ o ∷ names) = ap suc (many_new m (new_directory e m above) (done ++ n ∷ []) (o ∷ names))
+  made_fine : (m : Making) → (base : Path) (x : Node) (replaced : List Path) → IsFine (made_below e m base x replaced)
+  made_fine m base x replaced = record { spelled = made_spelled }
 
-  made_fine : (m : Making) → length m.path ≤ 60 → (base : Path) (x : Node) (replaced : List Path) → IsFine (made_below e m base x replaced)
-  made_fine m short base x replaced = record {
-    spelled = made_spelled;
-    few = omega (arith, many_new m x base (drop (length base) m.path), length-drop (length base) m.path, short);
-  }
+  new_fine : (m : Making) → (base : Path) (x : Node) → IsFine (create_new e m base x)
+  new_fine m base x = unless_fine (is_unmet_without e) _ (change_fine (conditions_of e.request.cond None)) (made_fine m base x [])
 
-  new_fine : (m : Making) → length m.path ≤ 60 → (base : Path) (x : Node) → IsFine (create_new e m base x)
-  new_fine m short base x = unless_fine (is_unmet_without e) _ (change_fine (conditions_of e.request.cond None)) (made_fine m short base x [])
-
-  over_fine : (m : Making) → length m.path ≤ 60 → (dir y : Node) → IsFine (create_over t e m dir y)
-  over_fine m short dir y =
+  over_fine : (m : Making) → (dir y : Node) → IsFine (create_over t e m dir y)
+  over_fine m dir y =
       unless_fine (is_guarded (caller_of e) dir m.path y) _ (deny_fine (sticky_lets dir.sticky dir.owner y.owner (caller_of e)) rule.Sticky m.path)
       (unless_fine (exists_already e) _ (refuse_fine (option_map_or (λ tags. tags.any) e.request.cond.none false) code.PathAlreadyExists)
       (unless_fine (is_unmet e y) _ (change_fine (conditions_of e.request.cond (Some (y.number, y.moment))))
       (unless_fine (refuse_if (not (has_kind m.kind y)) code.ResourceTypeMismatch) _ (refuse_fine (not (has_kind m.kind y)) code.ResourceTypeMismatch)
       (unless_fine (refuse_if (is_directory y && not (is_bare t m.path)) code.DirectoryNotEmpty) _ (refuse_fine (is_directory y && not (is_bare t m.path)) code.DirectoryNotEmpty)
-      (made_fine m short (parent m.path) dir (m.path ∷ []))))))
+      (made_fine m (parent m.path) dir (m.path ∷ []))))))
 
-  in_fine : (m : Making) → length m.path ≤ 60 → (dir : Node) → IsFine (create_in t e m dir)
-  in_fine m short dir =
+  in_fine : (m : Making) → (dir : Node) → IsFine (create_in t e m dir)
+  in_fine m dir =
       unless_fine (lacks (caller_of e) 3 (parent m.path) dir) _ (denied_fine (parent m.path) 3 (access_check dir.acl.access dir.owner dir.group (caller_of e) 3))
-      (noted_fine (at t m.path) m.path (create_new e m (parent m.path) dir) (create_over t e m dir) (new_fine m short (parent m.path) dir) (λ y is. over_fine m short dir y))
+      (noted_fine (at t m.path) m.path (create_new e m (parent m.path) dir) (create_over t e m dir) (new_fine m (parent m.path) dir) (λ y is. over_fine m dir y))
 
-  under_fine : (m : Making) → length m.path ≤ 60 → (base : Path) (x : Node) → IsFine (create_under e m base x)
-  under_fine m short base x =
-      unless_fine (lacks (caller_of e) 3 base x) _ (denied_fine base 3 (access_check x.acl.access x.owner x.group (caller_of e) 3)) (new_fine m short base x)
+  under_fine : (m : Making) → (base : Path) (x : Node) → IsFine (create_under e m base x)
+  under_fine m base x =
+      unless_fine (lacks (caller_of e) 3 base x) _ (denied_fine base 3 (access_check x.acl.access x.owner x.group (caller_of e) 3)) (new_fine m base x)
 
-  from_fine : (m : Making) → length m.path ≤ 60 → (d : Path) (x : Node) → IsFine (create_from e m d x)
-  from_fine m short [] x = refused_fine code.FilesystemNotFound
-  from_fine m short (fs ∷ names) x = under_fine m short (fs ∷ names) x
+  from_fine : (m : Making) → (d : Path) (x : Node) → IsFine (create_from e m d x)
+  from_fine m [] x = refused_fine code.FilesystemNotFound
+  from_fine m (fs ∷ names) x = under_fine m (fs ∷ names) x
 
-  create_fine : (m : Making) → length m.path ≤ 60 → IsFine (create t e m)
+  create_fine : (m : Making) → IsFine (create t e m)
   unfolding create
-  create_fine m short = walk_or_fine t (caller_of e) (create_from e m) code.ResourceTypeMismatch m.path (create_in t e m) (from_fine m short) (in_fine m short)
+  create_fine m = walk_or_fine t (caller_of e) (create_from e m) code.ResourceTypeMismatch m.path (create_in t e m) (from_fine m) (in_fine m)
 
   closed_user : (status : Bool) (x : Node) → AreClosed (user_fields status x)
   closed_user true x = closed_none
@@ -202,10 +195,10 @@ module _ (t : Tree) (e : Entry) (timely : e.moment ≤ LAST_MOMENT) where
   properties_fine p status dates =
       walk_fine t (caller_of e) code.PathNotFound p _
       (λ dir. noted_fine (at t p) p (refused (missing_code p code.PathNotFound)) (properties_of e status) (refused_fine (missing_code p code.PathNotFound))
-      (λ x is. unless_fine (is_unmet_look e x) (properties_shown e status x) (look_fine (conditions_of e.request.cond (Some (x.number, x.moment)))) (shown_fine status x (dates p x is))))
+      (λ x is. unless_fine (is_unmet_look e x) (properties_shown e status x) (look_fine (conditions_of e.request.cond (Some (x.number, x.moment)))) (shown_fine status x (dated x.moment (dates p x is)))))
 
   gone_fine : (dir : Path) (ps : List Path) → IsFine (gone dir ps)
-  gone_fine dir ps = record { spelled = plain_spelled 200 [] (lit≤ tt, lit< tt) closed_none; few = lit≤ tt }
+  gone_fine dir ps = record { spelled = plain_spelled 200 [] (lit≤ tt, lit< tt) closed_none }
 
   cleared_fine : (p : Path) (recursive : Bool) (ps : List Path) → IsFine (cleared t e p recursive ps)
   cleared_fine p true ps = reading_fine ps _ (unless_fine (first_refusal (not_clearable t (caller_of e)) t ps) (gone (parent p) ps) (first_fine (not_clearable t (caller_of e)) (clearable_fine t (caller_of e)) t ps) (gone_fine (parent p) ps))
@@ -226,16 +219,15 @@ module _ (t : Tree) (e : Entry) (timely : e.moment ≤ LAST_MOMENT) where
       (λ dir. unless_fine (lacks (caller_of e) 3 (parent p) dir) _ (denied_fine (parent p) 3 (access_check dir.acl.access dir.owner dir.group (caller_of e) 3))
       (noted_fine (at t p) p (refused (missing_code p code.PathNotFound)) (delete_node t e p recursive dir) (refused_fine (missing_code p code.PathNotFound)) (λ x is. node_fine p recursive dir x)))
 
-  acts_fine : (o : Op) (body : ℕ) → IsOperation o body → IsBuiltOperation o → HasDates t → IsFine (acts t e o)
-  acts_fine (op.CreateFilesystem path props) body sound built dates = filesystem_fine _ props
-  acts_fine (op.Create path kind permissions umask props) body sound built dates = create_fine _ (sound.0.limits.depth_within)
-  acts_fine (op.GetProperties path status) body sound built dates = properties_fine path status dates
-  acts_fine (op.Delete path recursive) body sound built dates = delete_fine path recursive
-  acts_fine (op.Refused c) body sound built dates = refused_fine c
-  acts_fine other body sound built dates = absurd built
+  acts_fine : (o : Op) → IsBuiltOperation o → HasDates t → IsFine (acts t e o)
+  acts_fine (op.CreateFilesystem path props) built dates = filesystem_fine _ props
+  acts_fine (op.Create path kind permissions umask props) built dates = create_fine _
+  acts_fine (op.GetProperties path status) built dates = properties_fine path status dates
+  acts_fine (op.Delete path recursive) built dates = delete_fine path recursive
+  acts_fine (op.Refused c) built dates = refused_fine c
+  acts_fine other built dates = absurd built
 
-pub outcome_fine : (t : Tree) (e : Entry) → IsSound e.request → IsBuilt e.request → e.moment ≤ LAST_MOMENT → HasDates t → IsFine (outcome t e)
+pub outcome_fine : (t : Tree) (e : Entry) → IsBuilt e.request → e.moment ≤ LAST_MOMENT → HasDates t → IsFine (outcome t e)
 unfolding outcome
-outcome_fine t e sound built timely dates =
-    let fine = acts_fine t e timely e.request.op (length e.request.body) sound.operation built.operation dates in
-    record { spelled = closing_spelled e.request.close _ fine.spelled; few = fine.few }
+outcome_fine t e built timely dates =
+    record { spelled = closing_spelled e.request.close _ (acts_fine t e timely e.request.op built.operation dates).spelled }

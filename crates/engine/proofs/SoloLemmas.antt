@@ -1,39 +1,42 @@
 -- What a submit makes of the sequential engine.
-use Rattle.std.proofs.Common.{◌≡◌, ℕ, zero, suc, ◌+◌, ◌%◌, ◌<◌, ◌≤◌, nat_lt, leb, Bool, true, false, cond, List, [], ◌∷◌, ◌++◌, map, flat_map, zip, length, slice_get, Option, Some, None, is_some, refl, ap, sym, subst, ◌∙◌, length-append, arith}
+use Rattle.std.proofs.Common.{◌≡◌, ℕ, zero, suc, ◌+◌, ◌%◌, ◌<◌, ◌≤◌, Bool, true, false, List, [], ◌∷◌, ◌++◌, map, zip, length, slice_get, Some, None, option_map, refl, ap, sym, subst, ◌∙◌, length-append, arith}
 use Rattle.std.proofs.lemmas.Bool.{false≢true}
+use Rattle.std.proofs.lemmas.Option.{same_Some}
+use Rattle.std.specs.Int.{bit_at}
 use Rattle.lease_state.specs.declared.lease.TheConstants.{LAST_MOMENT}
 use Rattle.lock_core.specs.declared.object.LockMode.TheVariants as mode
 use Rattle.namespace_model.specs.declared.request.Entry.{Entry}
 use Rattle.namespace_model.specs.declared.request.Request.{Request}
 use Rattle.op_decode.specs.Built.{IsBuilt}
-use Rattle.namespace_model.specs.Outcomes.{Outcome}
 use Rattle.namespace_model.specs.Sound.{IsSound}
-use Rattle.namespace_model.specs.Stamps.{HasRightStamp, newly_stamped, stamp_kept}
 use Rattle.namespace_model.specs.Step.{outcome, step, new_paths, tree_from, tree_after}
 use Rattle.namespace_model.specs.Trees.{Path, Tree, opening_tree}
 use Rattle.namespace_model.proofs.Runs.{tree_push}
-use Rattle.namespace_model.proofs.StepStamps.{stamps_after}
+use Rattle.namespace_model.proofs.LineLaws.{outcome_few}
 use Rattle.inode_tree.specs.declared.change.Change.{Change}
 use Rattle.inode_tree.specs.declared.draft.Draft.{Draft}
 use Rattle.inode_tree.specs.declared.fresh.Fresh.{Fresh}
 use Rattle.inode_tree.specs.declared.id.NodeId.{NodeId}
 use Rattle.inode_tree.specs.declared.need.Need.{Need}
 use Rattle.inode_tree.specs.declared.placed.Placed.{Placed}
-use Rattle.inode_tree.specs.After.{Relink, turn_of, making_of, turns_by, turns_on, outcome_on, known, drawn_ids, relinks, after}
-use Rattle.inode_tree.specs.Changes.{Part}
+use Rattle.inode_tree.specs.After.{turns_on, outcome_on, known, drawn_ids, after}
+use Rattle.inode_tree.specs.Changes.{Part, applied}
 use Rattle.inode_tree.specs.Drawing.{next_ids}
-use Rattle.inode_tree.specs.Footprints.{read_ids, written_ids, lies_in, reads, writes}
-use Rattle.inode_tree.specs.Inodes.{BareInode}
-use Rattle.inode_tree.specs.Parts.{Parts, inode_at, follow, id_at}
+use Rattle.inode_tree.specs.Footprints.{HasDate, read_ids, written_ids, lies_in, reads, writes}
+use Rattle.inode_tree.specs.Parts.{Parts, inode_at}
 use Rattle.inode_tree.specs.Promises.{applied_all, numbers_of, is_one_of, IsEntryOf, IsOfStep, IsDraft, IsNeed}
 use Rattle.inode_tree.specs.Rows.{fresh_id}
 use Rattle.inode_tree.specs.Stands.{Stands}
 use Rattle.inode_tree.specs.Views.{Held, Shown, ArePossible, covers}
-use Rattle.inode_tree.proofs.PromiseLemmas.{lies_one}
-use Rattle.inode_tree.proofs.PairLemmas.{known_is}
-use Rattle.inode_tree.proofs.TurnLemmas.{turned_by, Lacks, lacks_all, left_alone, inode-after}
+use Rattle.inode_tree.proofs.PromiseLemmas.{lies_one, at-applied_all}
+use Rattle.inode_tree.proofs.FrameLemmas.{others_stay}
+use Rattle.inode_tree.proofs.TurnLemmas.{Lacks, inode-after}
+use Rattle.parted_namespace.specs.Journals.{HasDates}
+use Rattle.parted_namespace.proofs.GivenIds.{at_within}
+use Rattle.parted_namespace.proofs.StepLemmas.{dates_step, known_lacks, turns_leave}
 use Rattle.path_walk.proofs.SetLemmas.{one_lies}
-use Rattle.engine.specs.Solos.{SoloView, parts_in, placed_behind, HasDates, IsKept, made_from, made_by}
+use Rattle.engine.specs.Solos.{SoloView, parts_in, placed_behind, IsKept, made_from, made_by}
+use Rattle.engine.specs.Stripes.{LeaveOthers}
 use Rattle.reply_text.specs.ReplyText.{CanSpell, reply_text}
 use Rattle.std.proofs.Math.Dec.{lit<}
 use Rattle.std.proofs.Math.Nat.{mod-lt}
@@ -41,9 +44,13 @@ use Rattle.striped_store.specs.Receipts.{AreBits}
 use Rattle.inode_tree.specs.Parts as parts
 use Rattle.engine.specs.declared.solo.Answer.{Answer}
 use Rattle.engine.specs.Submits.{Submits, texts_of}
-use Rattle.engine.proofs.FineSteps.{IsFine, outcome_fine}
-use Rattle.engine.proofs.StripeLemmas.{at_within}
+use Rattle.engine.proofs.FineSteps.{outcome_fine}
 use Rattle.engine.proofs.Texts.{texts_push}
+
+-- ---- moments
+
+has_date : (moment : ℕ) → moment ≤ LAST_MOMENT → HasDate moment
+has_date moment timely = let last : LAST_MOMENT ≡ 253402300799999 = refl in omega (arith, timely, last)
 
 -- ---- all stripes are held
 
@@ -76,15 +83,6 @@ made_push : (es : List Entry) (e : Entry) → made_by (es ++ e ∷ []) ≡ made_
 unfolding made_by tree_after
 made_push es e = made_from_push opening_tree 1 es e
 
--- ---- dates
-
-dates_step : (t : Tree) (e : Entry) (number : ℕ) (parts : Parts) → Stands parts t → IsSound e.request → e.moment ≤ LAST_MOMENT → HasDates t → HasDates (step t e number).tree
-dates_step t e number parts stands sound timely dates q y there = by_stamp (stamps_after t stands.tree e sound number q y there)
-  where
-    by_stamp : HasRightStamp t e (outcome t e) number q y → y.moment ≤ LAST_MOMENT
-    by_stamp (newly_stamped p followed may stamped has) = subst (λ m. m ≤ LAST_MOMENT) (sym has.moment_is) timely
-    by_stamp (stamp_kept p x followed there same) = subst (λ m. m ≤ LAST_MOMENT) (sym same.moment_is) (dates p x there)
-
 -- ---- ids that stay free
 
 -- ids that were drawn before are not the one at a later place
@@ -92,32 +90,6 @@ lacks_later : (paths : List Path) (used many k : ℕ) → used + many ≤ k → 
 lacks_later [] used many k h = tt
 lacks_later (p ∷ paths) used zero k h = tt
 lacks_later (p ∷ paths) used (suc many) k h = (λ e. absurd (omega arith), lacks_later paths (suc used) many k (omega arith))
-
-followed : (parts : Parts) (p : Path) (id : ℕ) → id_at parts p ≡ Some id → follow parts 0 p ≡ Some id
-followed parts p id e = by_length (leb (length p) 60) e
-  where
-    by_length : (b : Bool) → cond b (follow parts 0 p) None ≡ Some id → follow parts 0 p ≡ Some id
-    by_length true h = h
-    by_length false h = absurd (false≢true (ap is_some h))
-
--- an id that isn't kept is none of a path
-known_lacks : (parts : Parts) (t : Tree) (id : ℕ) (ps : List Path) → Stands parts t → inode_at parts id ≡ None → Lacks id (known parts ps)
-known_lacks parts t id ps stands none =
-    lacks_all id (known parts ps)
-    (λ x h same.
-    let is = known_is parts ps x h in
-    absurd (false≢true (sym (ap is_some (ap (inode_at parts) same ∙ none)) ∙ stands.found x.0 x.1 (followed parts x.0 x.1 is.1))))
-
-abbrev links_of : Outcome → List (Path × ℕ) → List ℕ → List Relink
-links_of o xs ids = relinks o.effect xs (zip o.fresh ids)
-
--- an id of no turn has what was there
-turns_leave : (o : Outcome) (xs : List (Path × ℕ)) (ids : List ℕ) (number id : ℕ) (before : Option BareInode) → Lacks id xs → Lacks id (zip o.fresh ids) → turned_by number id (turns_by o xs ids) before ≡ before
-turns_leave o xs ids number id before old new = by_count (nat_lt (length ids) (length o.fresh))
-  where
-    by_count : (b : Bool) → turned_by number id (cond b [] (map (turn_of o.effect (links_of o xs ids)) xs ++ flat_map (making_of o.effect (links_of o xs ids)) (zip o.fresh ids))) before ≡ before
-    by_count true = refl
-    by_count false = left_alone number o.effect (links_of o xs ids) id xs (zip o.fresh ids) before old new
 
 -- ---- the stripes of a footprint
 
@@ -161,11 +133,8 @@ module _ (old : SoloView) (kept : IsKept old) (e : Entry) (sound : IsSound e.req
   pub of_step : IsOfStep d (parts_in old) t placed
   of_step = draft.of_step (parts_in old) t placed possible entry_of
 
-  pub fine : IsFine (outcome t e)
-  fine = outcome_fine t e sound built timely kept.dates
-
   pub spelled : CanSpell d.reply
-  spelled = subst CanSpell (sym of_step.reply) fine.spelled
+  spelled = subst CanSpell (sym of_step.reply) (outcome_fine t e built timely kept.dates).spelled
 
   abbrev number : ℕ
   number = length old.entries + 1
@@ -199,8 +168,8 @@ module _ (old : SoloView) (kept : IsKept old) (e : Entry) (sound : IsSound e.req
       record {
         stands = subst (Stands (parts_in new)) (sym tree_is) (subst (λ (ps : Parts). Stands ps (step t e number).tree) (sym is) (of_step.stands number));
         made = drawn ∙ ap (λ n. old.used + n) of_step.drawn ∙ ap (λ n. n + length (new_paths t e)) kept.made ∙ sym (made_push old.entries e) ∙ sym (ap made_by pushed);
-        dates = subst HasDates (sym tree_is) (dates_step t e number (parts_in old) kept.stands sound timely kept.dates);
-        few = omega (arith, ap length pushed, length-append old.entries (e ∷ []), drawn, of_step.drawn, fine.few, kept.few);
+        dates = subst HasDates (sym tree_is) (dates_step t kept.stands.tree e number sound (has_date e.moment timely) kept.dates);
+        few = omega (arith, ap length pushed, length-append old.entries (e ∷ []), drawn, of_step.drawn, outcome_few t e sound, kept.few);
         free = λ k h. ap (λ (ps : Parts). inode_at ps (fresh_id 0 k)) (parts_after (parts_in new) is) ∙ free_after k (omega (arith, h, drawn, of_step.drawn));
       }
 
@@ -209,6 +178,24 @@ module _ (old : SoloView) (kept : IsKept old) (e : Entry) (sound : IsSound e.req
 
   pub read_stripes : (k : ℕ) → lies_in k (numbers_of d.reads.items) ≡ reads (parts_in old) placed k
   read_stripes k = same_stripes (numbers_of d.reads.items) (read_ids (parts_in old) placed) of_step.read_ids k
+
+  -- the changes leave the stripes that the entry doesn't write
+  pub others_left : (written n : ℕ) (changes : List Change) (ps : Parts) → AreBits written (λ k. lies_in k (numbers_of d.writes.items) ≡ true) → n ≡ number → changes ≡ d.changes.items → ps ≡ parts_in old
+      → LeaveOthers written n changes ps
+  others_left written n changes ps are a b c =
+      subst (λ qs. LeaveOthers written n changes qs) (sym c) (subst (λ cs. LeaveOthers written n cs (parts_in old)) (sym b) (subst (λ m. LeaveOthers written m d.changes.items (parts_in old)) (sym a) left))
+    where
+      unwritten : (k : ℕ) → k < 64 → bit_at written k ≡ 0 → (w : Bool) → lies_in k (numbers_of d.writes.items) ≡ w → writes (parts_in old) placed k ≡ false
+      unwritten k small free true is = absurd (let set : bit_at written k ≡ 1 = (are k small).1 is in omega (arith, set, free))
+      unwritten k small free false is = sym (written_stripes k) ∙ is
+
+      left : LeaveOthers written number d.changes.items (parts_in old)
+      left k part small free there =
+          same_Some _ part
+          (sym (at-applied_all number d.changes.items (parts_in old) k ∙ ap (option_map (applied k number d.changes.items)) there)
+          ∙ ap (λ (qs : Parts). slice_get qs k) (of_step.parts_after number)
+          ∙ others_stay (parts_in old) placed k number (unwritten k small free (lies_in k (numbers_of d.writes.items)) refl)
+          ∙ there)
 
   -- the entry is submitted
   pub submits : (new : SoloView) (answer : Answer) → new.entries ≡ old.entries ++ e ∷ [] → parts_in new ≡ applied_all number d.changes.items (parts_in old) → new.used ≡ old.used + d.drawn

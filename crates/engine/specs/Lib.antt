@@ -1,6 +1,5 @@
 pub mod Solos
 pub mod Stripes
-pub mod Opening
 pub mod Submits
 pub mod Answered
 pub mod Written

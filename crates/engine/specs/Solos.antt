@@ -1,13 +1,11 @@
 -- What a contract sees of the sequential engine: its journal, and the 64 parts of the namespace.
-use Rattle.std.specs.Prelude.{◌≡◌, ℕ, suc, ◌+◌, ◌*◌, ◌≤◌, List, [], ◌∷◌, map, length, Some, None, refl}
+use Rattle.std.specs.Prelude.{◌≡◌, ℕ, suc, ◌+◌, ◌*◌, ◌≤◌, List, [], ◌∷◌, length, None, refl}
 use Rattle.std.specs.Coded.{Coded, code_by, coded×, coded_list, coded_ℕ}
 use Rattle.commit_journal.specs.Journal.{JournalView}
 use Rattle.commit_journal.specs.Limits.{LimitNumbers}
-use Rattle.lease_state.specs.declared.lease.TheConstants.{LAST_MOMENT}
 use Rattle.namespace_model.specs.declared.request.Entry.{Entry}
-use Rattle.namespace_model.specs.Nodes.{Node}
 use Rattle.namespace_model.specs.Step.{step, tree_after, new_paths}
-use Rattle.namespace_model.specs.Trees.{Path, Tree, at, opening_tree}
+use Rattle.namespace_model.specs.Trees.{Tree, opening_tree}
 use Rattle.inode_tree.specs.declared.meta.Meta.{Meta}
 use Rattle.inode_tree.specs.declared.placed.Placed.{Placed}
 use Rattle.inode_tree.specs.Drawing.{next_ids}
@@ -15,10 +13,8 @@ use Rattle.inode_tree.specs.Parts.{Parts, inode_at}
 use Rattle.inode_tree.specs.Rows.{fresh_id}
 use Rattle.inode_tree.specs.Stands.{Stands}
 use Rattle.inode_tree.specs.Stripes.{StripeRecord, stripe_code}
-
--- the parts of stripes
-abbrev pub parts_of : List StripeRecord → Parts
-parts_of stripes = map (λ (s : StripeRecord). s.part) stripes
+use Rattle.parted_namespace.specs.Namespace.{parts_of}
+use Rattle.parted_namespace.specs.Journals.{HasDates}
 
 pub record SoloView : Type 0 where
   -- the journal: its entries, its limits, and for how many more entries there is memory
@@ -63,10 +59,6 @@ made_from t number (e ∷ es) = length (new_paths t e) + made_from (step t e num
 -- how many nodes the entries of a journal make
 unfoldable pub made_by : List Entry → ℕ
 made_by journal = made_from opening_tree 1 journal
-
--- the moment of each node is before the year 10000
-abbrev pub HasDates : Tree → Type 0
-HasDates t = (p : Path) (x : Node) → at t p ≡ Some x → x.moment ≤ LAST_MOMENT
 
 -- The parts stand for the tree of the run of the journal, each of whose nodes has a date. As many ids are used as the entries made nodes, at most 60
 -- for each of them on the whole, and the ids behind those are free.

@@ -1,9 +1,13 @@
 -- One submit, and the texts of a journal.
 use Rattle.std.specs.Prelude.{◌≡◌, ℕ, suc, ◌+◌, true, false, List, [], ◌∷◌, ◌++◌, length, drop, slice_get, Some}
+use Rattle.commit_journal.specs.declared.journal.ReserveStop.{ReserveStop}
+use Rattle.commit_journal.specs.declared.journal.ReserveStop.TheVariants as stop
 use Rattle.namespace_model.specs.declared.request.Entry.{Entry}
 use Rattle.namespace_model.specs.declared.reply.Reply.{Reply}
 use Rattle.namespace_model.specs.Step.{step, tree_after, new_paths, replies_of}
 use Rattle.engine.specs.declared.solo.Answer.{Answer}
+use Rattle.engine.specs.declared.solo.SubmitRefusal.{SubmitRefusal}
+use Rattle.engine.specs.declared.solo.SubmitRefusal.TheVariants as refusal
 use Rattle.engine.specs.Solos.{SoloView, parts_in, placed_behind}
 use Rattle.inode_tree.specs.After.{after}
 use Rattle.inode_tree.specs.Footprints.{reads, writes}
@@ -46,6 +50,11 @@ pub record Submits (old new : SoloView) (entry : Entry) (answer : Answer) : Type
   pub written : AreBits answer.receipt.exclusive (λ k. writes (parts_in old) (placed_behind old entry) k ≡ true)
   pub read : AreBits answer.receipt.shared (λ k. (writes (parts_in old) (placed_behind old entry) k ≡ false) × (reads (parts_in old) (placed_behind old entry) k ≡ true))
   pub rounds : answer.receipt.rounds ≡ 1
+
+-- why a request is not taken for which the journal has no room
+abbrev pub refusal_for : ReserveStop → SubmitRefusal
+refusal_for (stop.Full full) = refusal.Full full
+refusal_for stop.NoMemory = refusal.NoMemory
 
 -- the bytes of an entry's body
 abbrev pub body_of : Entry → ℕ

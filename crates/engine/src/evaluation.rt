@@ -1,10 +1,11 @@
-ghost use Rattle.std.specs.Prelude.{◌≡◌, ◌<◌, ◌^◌, [], IfOk};
+ghost use Rattle.std.specs.Prelude.{◌≡◌, ◌≤◌, ◌<◌, ◌^◌, [], IfOk};
+ghost use Rattle.lease_state.specs.declared.lease.TheConstants.{LAST_MOMENT};
 ghost use Rattle.inode_tree.specs.Promises.{IsEvaluated};
-ghost use Rattle.inode_tree.specs.Views.{Grows};
 ghost use Rattle.op_decode.specs.Built.{IsBuilt};
 ghost use Rattle.namespace_model.specs.Replies.{refusal};
 ghost use Rattle.namespace_model.specs.Sound.{IsSound};
 ghost use Rattle.path_walk.specs.Answers.{IsAnswered};
+ghost use Rattle.path_walk.specs.Calls.{GoesOn};
 
 use inode_tree::{Draft, EvalStop, Fresh, View};
 use namespace_model::{Code, Op, Request};
@@ -18,7 +19,7 @@ use std::alloc::{AllocError, Global};
 /// Works out what a request replies and changes at this moment, in milliseconds since 1970, by the evaluator of its operation. Where a
 /// node that it reads or writes lies in a stripe that isn't held so, the answer is `Need`; want of memory may come at any time.
 ///
-/// The request is sound, and one of those that are built. The pass has a number below 64 and has used up fewer than 2^40 ids.
+/// The request is sound, one of those that are built, and the moment has a date. The pass has a number below 64 and has used up fewer than 2^40 ids.
 pub fn eval<V: View>(
     alloc: Global,
     view: &mut V,
@@ -27,12 +28,11 @@ pub fn eval<V: View>(
     fresh: &Fresh,
 ) -> Result<Draft, EvalStop>
     requires sound { IsSound request.now }
+    requires moment { moment ≤ LAST_MOMENT }
     requires built { IsBuilt request.now }
     requires pass { fresh.now.pass < 64 }
     requires used { fresh.now.used < 2 ^ 40 }
-    ensures held { V.held view.new ≡ V.held view.old }
-    ensures over { V.over view.new ≡ V.over view.old }
-    ensures grows { Grows (V.shown view.old) (V.shown view.new) }
+    ensures on { GoesOn (V.held view.old) (V.held view.new) (V.over view.old) (V.over view.new) (V.shown view.old) (V.shown view.new) }
     ensures evaluated { IsEvaluated (V.held view.old) (V.shown view.new) request.now moment fresh.now result }
 {
     match &request.op {

@@ -13,7 +13,6 @@
 mod end;
 mod evaluation;
 mod laws;
-mod opening;
 mod receipt;
 mod serving;
 mod solo;

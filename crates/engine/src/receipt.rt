@@ -23,8 +23,8 @@ pub(crate) fn receipt_of(number: u64, reads: &[NodeId], writes: &[NodeId]) -> Re
     }
 }
 
-// The stripes in which these nodes lie.
-fn stripes_of(ids: &[NodeId]) -> u64
+// The stripes in which these nodes lie: bit s is stripe s.
+pub(crate) fn stripes_of(ids: &[NodeId]) -> u64
     ensures { AreBits result (λ k. lies_in k (numbers_of ids.now) ≡ true) }
 {
     let mut bits = 0u64;

@@ -1,5 +1,9 @@
+ghost use Rattle.std.specs.Prelude.{◌≡◌};
+ghost use Rattle.engine.specs.declared.solo.SubmitRefusal.TheVariants.{NoMemory};
+ghost use Rattle.engine.specs.Submits.{refusal_for};
+
 use super::evaluation::eval;
-use super::receipt::receipt_of;
+use super::receipt::{receipt_of, stripes_of};
 use super::spelling::spell;
 use super::stripes::Stripes;
 use commit_journal::{Full, Journal, Limits, ReserveStop};
@@ -25,6 +29,25 @@ pub enum SubmitRefusal {
     Full(Full),
     #[error("out of memory")]
     NoMemory,
+}
+
+impl From<AllocError> for SubmitRefusal {
+    ghost from_gives = { λ _ refusal. refusal ≡ NoMemory };
+
+    fn from(_error: AllocError) -> SubmitRefusal {
+        SubmitRefusal::NoMemory
+    }
+}
+
+impl From<ReserveStop> for SubmitRefusal {
+    ghost from_gives = { λ stop refusal. refusal ≡ refusal_for stop };
+
+    fn from(stop: ReserveStop) -> SubmitRefusal {
+        match stop {
+            ReserveStop::Full(full) => SubmitRefusal::Full(full),
+            ReserveStop::NoMemory => SubmitRefusal::NoMemory,
+        }
+    }
 }
 
 /// The sequential engine: the namespace in memory, and the journal of all that was asked of it. A contract sees the journal, the 64
@@ -102,11 +125,7 @@ impl Solo {
         ensures full { IsErrOf result (SubmitRefusal.Full Full.JournalFull) ↔ IsFull (journal_in self.old) }
         ensures bytes_full { IsErrOf result (SubmitRefusal.Full Full.JournalBytesFull) ↔ IsFullFor body_of (journal_in self.old) (length request.body) }
     {
-        match self.journal.reserve(request.body.bytes().len() as u64) {
-            Ok(()) => {}
-            Err(ReserveStop::Full(full)) => return Err(SubmitRefusal::Full(full)),
-            Err(ReserveStop::NoMemory) => return Err(SubmitRefusal::NoMemory),
-        }
+        self.journal.reserve(request.body.bytes().len() as u64)?;
         let number = self.journal.len() + 1;
         let fresh = Fresh {
             pass: 0,
@@ -117,23 +136,17 @@ impl Solo {
             Err(EvalStop::Need(_)) => unreachable!(),
             Err(EvalStop::NoMemory) => return Err(SubmitRefusal::NoMemory),
         };
-        let Ok(bytes) = spell(alloc, &draft.reply, number, moment, request.head) else {
-            return Err(SubmitRefusal::NoMemory);
-        };
-        if self
-            .stripes
-            .reserve(alloc, draft.changes.as_slice())
-            .is_err()
-        {
-            return Err(SubmitRefusal::NoMemory);
-        }
+        let bytes = spell(alloc, &draft.reply, number, moment, request.head)?;
+        let written = stripes_of(draft.writes.as_slice());
+        let changes = draft.changes.as_slice();
+        self.stripes.reserve(alloc, written, changes)?;
         self.journal.push(Entry {
             conn,
             index,
             moment,
             request,
         });
-        self.stripes.apply(draft.changes.as_slice(), number);
+        self.stripes.apply(written, changes, number);
         self.used += u64::from(draft.drawn);
         Ok(Answer {
             bytes,

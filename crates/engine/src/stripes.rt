@@ -1,12 +1,10 @@
 //! The 64 stripes of nodes, all of which the sequential engine holds.
-ghost use Rattle.std.specs.Prelude.{◌≡◌, IfOk, OnOk};
-ghost use Rattle.engine.specs.Opening.{account_part};
-ghost use Rattle.engine.specs.Stripes.{AreReady, AreChanged, AreSame};
-ghost use Rattle.inode_tree.specs.Changes.{applied};
+ghost use Rattle.std.specs.Prelude.{◌≡◌, length, OnOk};
+ghost use Rattle.engine.specs.Stripes.{AreReady, AreChanged, AreSame, applied_where};
 
-use super::opening::account;
 use inode_tree::{Change, GetStop, NodeId, NodeRef, Stripe, View};
-use lock_core::LockMode;
+use lock_core::{LockMode, Parted};
+use parted_namespace::Namespace;
 use std::alloc::{AllocError, Global};
 use std::marker::Model;
 
@@ -37,46 +35,50 @@ impl Stripes {
     ghost use Rattle.inode_tree.specs.Parts.{tree_of};
     ghost use Rattle.inode_tree.specs.Promises.{applied_all};
     ghost use Rattle.inode_tree.specs.Stands.{Stands};
-    ghost use Rattle.engine.specs.Opening.{AreOpening};
-    ghost use Rattle.engine.specs.Solos.{parts_of};
-    ghost use Rattle.engine.specs.Stripes.{AreReady};
+    ghost use Rattle.parted_namespace.specs.Namespace.{parts_of};
+    ghost use Rattle.parted_namespace.specs.Opening.{AreOpening};
+    ghost use Rattle.engine.specs.Stripes.{AreReady, LeaveOthers};
 
     /// The stripes with the account alone. The one error is want of memory.
     pub(crate) fn start(alloc: Global) -> Result<Stripes, AllocError>
         ensures { IfOk result (λ stripes. AreOpening (parts_of stripes)) }
     {
-        let mut stripes = Vec::with_capacity(alloc, 64)?;
-        stripes.push(first(alloc)?)?;
-        for stripe in 1..64u8 {
-            stripes.push(Stripe::new(alloc, stripe))?;
-        }
-        Ok(Stripes { stripes })
+        Ok(Stripes {
+            stripes: Namespace::opening_parts(alloc)?,
+        })
     }
 
-    /// Makes ready what the changes make of each stripe. The parts stay as they are. The one error is want of memory.
-    pub(crate) fn reserve(&mut self, alloc: Global, changes: &[Change]) -> Result<(), AllocError>
-        ensures ready { OnOk result (AreReady self.new changes.now) }
+    /// Makes ready what the changes make of the stripes that are written: bit k of `written` is set for stripe k. The others aren't
+    /// visited, and the parts stay as they are. The one error is want of memory.
+    pub(crate) fn reserve(
+        &mut self,
+        alloc: Global,
+        written: u64,
+        changes: &[Change],
+    ) -> Result<(), AllocError>
+        ensures ready { OnOk result (AreReady written self.new changes.now) }
         ensures parts { parts_of self.new ≡ parts_of self.old }
     {
-        reserve_all(alloc, self.stripes.as_mut_slice(), changes)
+        reserve_written(alloc, self.stripes.as_mut_slice(), written, changes)
     }
 
-    /// Puts in what is ready, with the number of the entry. It takes no memory.
+    /// Puts in what is ready in the stripes that are written, with the number of the entry. It takes no memory.
     ///
-    /// These are the changes for which it was made ready, and the parts with them stand for a tree.
-    pub(crate) fn apply(&mut self, changes: &[Change], number: u64)
-        requires ready { AreReady self.old changes.now }
+    /// These are the changes for which it was made ready. They leave the other stripes, and the parts with them stand for a tree.
+    pub(crate) fn apply(&mut self, written: u64, changes: &[Change], number: u64)
+        requires ready { AreReady written self.old changes.now }
+        requires others { LeaveOthers written number changes.now (parts_of self.old) }
         requires stands { Stands (applied_all number changes.now (parts_of self.old)) (tree_of (applied_all number changes.now (parts_of self.old))) }
         ensures { parts_of self.new ≡ applied_all number changes.now (parts_of self.old) }
     {
-        apply_all(self.stripes.as_mut_slice(), changes, number);
+        apply_written(self.stripes.as_mut_slice(), written, changes, number);
     }
 }
 
 impl View for Stripes {
     ghost use Rattle.std.specs.Prelude.{slice_get};
     ghost use Rattle.lock_core.specs.declared.object.LockMode.TheVariants.{Exclusive};
-    ghost use Rattle.engine.specs.Solos.{parts_of};
+    ghost use Rattle.parted_namespace.specs.Namespace.{parts_of};
 
     type Over = Stripes;
 
@@ -103,33 +105,35 @@ impl View for Stripes {
     }
 }
 
-// The first stripe, with the account.
-fn first(alloc: Global) -> Result<Stripe, AllocError>
-    ensures stripe { IfOk result (λ first. first.stripe ≡ 0) }
-    ensures part { IfOk result (λ first. first.part ≡ account_part) }
-{
-    let mut stripe = Stripe::new(alloc, 0);
-    let changes = [Change::Put(NodeId(0), account(alloc)?)];
-    stripe.reserve(alloc, &changes)?;
-    stripe.apply(&changes, 0);
-    Ok(stripe)
-}
-
-fn reserve_all(alloc: Global, stripes: &mut [Stripe], changes: &[Change]) -> Result<(), AllocError>
-    ensures ready { OnOk result (AreReady stripes.new changes.now) }
+// In place of a visit to each stripe, the bits of those that are left are taken from the lowest on.
+fn reserve_written(
+    alloc: Global,
+    stripes: &mut [Stripe],
+    written: u64,
+    changes: &[Change],
+) -> Result<(), AllocError>
+    requires { length stripes.old ≡ 64 }
+    ensures ready { OnOk result (AreReady written stripes.new changes.now) }
     ensures same { AreSame stripes.old stripes.new }
 {
-    for stripe in stripes.iter_mut() {
-        stripe.reserve(alloc, changes)?;
+    let mut left = written;
+    'each: while left != 0 {
+        let stripe = left.trailing_zeros();
+        left &= !(1u64 << stripe);
+        stripes[stripe as usize].reserve(alloc, changes)?;
     }
     Ok(())
 }
 
-fn apply_all(stripes: &mut [Stripe], changes: &[Change], number: u64)
-    requires { AreReady stripes.old changes.now }
-    ensures { AreChanged (λ stripe. applied stripe number changes.now) stripes.old stripes.new }
+fn apply_written(stripes: &mut [Stripe], written: u64, changes: &[Change], number: u64)
+    requires long { length stripes.old ≡ 64 }
+    requires ready { AreReady written stripes.old changes.now }
+    ensures { AreChanged (applied_where written number changes.now) stripes.old stripes.new }
 {
-    for stripe in stripes.iter_mut() {
-        stripe.apply(changes, number);
+    let mut left = written;
+    'each: while left != 0 {
+        let stripe = left.trailing_zeros();
+        left &= !(1u64 << stripe);
+        stripes[stripe as usize].apply(changes, number);
     }
 }

@@ -14,6 +14,10 @@ pub mod FrameLemmas
 pub mod IndexLemmas
 pub mod SameParts
 pub mod LinkLemmas
+pub mod LinkLists
+pub mod NodeChildren
+pub mod FirstLinks
+pub mod StopLemmas
 pub mod TurnLemmas
 pub mod PairLemmas
 pub mod FreshOnce

@@ -8,17 +8,17 @@ use Rattle.inode_tree.specs.declared.inode.Inode.{Inode}
 use Rattle.inode_tree.specs.declared.change.Change.{Change}
 use Rattle.inode_tree.specs.Inodes.{BareInode}
 use Rattle.inode_tree.specs.Changes.{applied}
-use Rattle.inode_tree.specs.Stripes.{Outcome, StripeRecord, outcome_by, put_in, IsReady}
+use Rattle.inode_tree.specs.Stripes.{Prepared, StripeRecord, outcome_by, put_in, IsReady}
 use Rattle.inode_tree.specs.Drafts.{bare_draft, sealed_entry, AreDrafts, IsPutIn}
 
 abbrev Nodes : Type 0
 Nodes = List (ℕ × BareInode)
 
-abbrev Outcomes : Type 0
-Outcomes = List (ℕ × Outcome)
+abbrev AllPrepared : Type 0
+AllPrepared = List (ℕ × Prepared)
 
 -- the last outcome is put in first
-pub put_more : (number q id : ℕ) (outcome : Outcome) (rest : Outcomes) (old new : Nodes) → IsPutIn number id outcome old new
+pub put_more : (number q id : ℕ) (outcome : Prepared) (rest : AllPrepared) (old new : Nodes) → IsPutIn number id outcome old new
     → put_in number (find nat_cmp q rest) (find nat_cmp q new) ≡ put_in number (find nat_cmp q (rest ++ (id, outcome) ∷ [])) (find nat_cmp q old)
 put_more number q id outcome [] old new is =
     is q ∙ elim (eq_by_cmp nat_cmp q id) as (λ b. cond b (outcome_by number outcome) (find nat_cmp q old) ≡ put_in number (cond b (Some outcome) None) (find nat_cmp q old)) [
@@ -33,14 +33,14 @@ put_more number q id outcome (e ∷ rest) old new is =
     ]
 
 -- what is found in lists is in their maps
-as_maps : (number q : ℕ) (ready : Outcomes) (nodes : Nodes)
+as_maps : (number q : ℕ) (ready : AllPrepared) (nodes : Nodes)
     → put_in number (find nat_cmp q ready) (find nat_cmp q nodes) ≡ put_in number (fin.get (fin.from_entries {R = nat_cmp} ready) q) (fin.get (fin.from_entries {R = nat_cmp} nodes) q)
 as_maps number q ready nodes =
     ap (λ o. put_in number o (find nat_cmp q nodes)) (sym (fin.get-from_entries nat_cmp_total ready q))
     ∙ ap (put_in number (fin.get (fin.from_entries {R = nat_cmp} ready) q)) (sym (fin.get-from_entries nat_cmp_total nodes q))
 
 -- with all that is ready, the part is the one after the changes
-pub all_put_in : (s t : StripeRecord) (number : ℕ) (changes : List Change) (ready : Outcomes) (nodes new : Nodes)
+pub all_put_in : (s t : StripeRecord) (number : ℕ) (changes : List Change) (ready : AllPrepared) (nodes new : Nodes)
     → s ≡ t → s.part ≡ fin.from_entries nodes → s.ready ≡ fin.from_entries ready → IsReady t changes
     → ((q : ℕ) → find nat_cmp q new ≡ put_in number (find nat_cmp q ready) (find nat_cmp q nodes))
     → fin.from_entries new ≡ applied t.stripe number changes t.part
@@ -59,7 +59,7 @@ find_sealed q (e ∷ drafts) =
     ]
 
 -- sealed drafts are ready
-pub sealed_is_ready : (stripe : ℕ) (changes : List Change) (drafts : List (ℕ × Option (Inode × Bool))) (ready : Outcomes) (nodes : Nodes)
+pub sealed_is_ready : (stripe : ℕ) (changes : List Change) (drafts : List (ℕ × Option (Inode × Bool))) (ready : AllPrepared) (nodes : Nodes)
     → ready ≡ map sealed_entry drafts → AreDrafts stripe nodes changes drafts
     → IsReady (record { stripe = stripe; part = fin.from_entries nodes; ready = fin.from_entries ready }) changes
 sealed_is_ready stripe changes drafts ready nodes is made number q =

@@ -7,10 +7,10 @@ use Rattle.inode_tree.specs.declared.inode.Inode.{Inode}
 use Rattle.inode_tree.specs.declared.change.Change.{Change}
 use Rattle.inode_tree.specs.Inodes.{BareInode, bare}
 use Rattle.inode_tree.specs.Changes.{id_of, node_after, applied}
-use Rattle.inode_tree.specs.Stripes.{Outcome, outcome_by, put_in}
+use Rattle.inode_tree.specs.Stripes.{Prepared, outcome_by, put_in}
 
 -- a draft without its room
-abbrev pub bare_draft : Option (Inode × Bool) → Outcome
+abbrev pub bare_draft : Option (Inode × Bool) → Prepared
 bare_draft draft = option_map (λ (x : Inode × Bool). (bare x.0, x.1)) draft
 
 -- what stands at an id once the drafts were put in
@@ -33,10 +33,10 @@ IsDrafted nodes change old new =
     × SameButAt (id_of change) old new
 
 -- a draft whose room is no longer seen
-abbrev pub sealed_entry : ℕ × Option (Inode × Bool) → ℕ × Outcome
+abbrev pub sealed_entry : ℕ × Option (Inode × Bool) → ℕ × Prepared
 sealed_entry entry = (entry.0, bare_draft entry.1)
 
 -- what is found once an outcome was put in
-abbrev pub IsPutIn : ℕ → ℕ → Outcome → List (ℕ × BareInode) → List (ℕ × BareInode) → Type 0
+abbrev pub IsPutIn : ℕ → ℕ → Prepared → List (ℕ × BareInode) → List (ℕ × BareInode) → Type 0
 IsPutIn number id outcome old new =
     (q : ℕ) → find nat_cmp q new ≡ (if eq_by_cmp nat_cmp q id then outcome_by number outcome else find nat_cmp q old)

@@ -9,6 +9,7 @@ pub mod Drafts
 pub mod StripeInside
 pub mod Idle
 pub mod Parts
+pub mod FirstChild
 pub mod Stands
 pub mod After
 pub mod Drawing

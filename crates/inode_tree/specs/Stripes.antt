@@ -10,21 +10,21 @@ use Rattle.inode_tree.specs.Inodes.{BareInode, inode_code}
 use Rattle.inode_tree.specs.Changes.{Part, asked_by, applied}
 
 -- what is to stand at an id: no inode, or this one, and whether it asks for the number of the entry
-abbrev pub Outcome : Type 0
-Outcome = Option (BareInode × Bool)
+abbrev pub Prepared : Type 0
+Prepared = Option (BareInode × Bool)
 
 -- the number of the stripe, its part, and what is ready
 pub record StripeRecord : Type 0 where
   pub stripe : ℕ
   pub part : Part
-  pub ready : FinMap nat_cmp Outcome
+  pub ready : FinMap nat_cmp Prepared
 
 -- the inode of an outcome, put in by the entry with this number
-abbrev pub outcome_by : ℕ → Outcome → Option BareInode
+abbrev pub outcome_by : ℕ → Prepared → Option BareInode
 outcome_by number outcome = option_map (λ (x : BareInode × Bool). asked_by number x.1 x.0) outcome
 
 -- what stands at an id once what is ready was put in
-abbrev pub put_in : ℕ → Option Outcome → Option BareInode → Option BareInode
+abbrev pub put_in : ℕ → Option Prepared → Option BareInode → Option BareInode
 put_in number None before = before
 put_in number (Some outcome) before = outcome_by number outcome
 
@@ -35,7 +35,7 @@ IsReady s changes =
 
 abbrev pub stripe_code : Coded Meta → Coded StripeRecord
 stripe_code meta_code =
-    code_by (ℕ × (Part × FinMap nat_cmp Outcome))
+    code_by (ℕ × (Part × FinMap nat_cmp Prepared))
     (coded× coded_ℕ (coded× (fin.code coded_ℕ (inode_code meta_code)) (fin.code coded_ℕ (coded_option (coded× (inode_code meta_code) coded_bool)))))
     (λ s. (s.stripe, (s.part, s.ready)))
     (λ p. record { stripe = p.0; part = p.1.0; ready = p.1.1 })

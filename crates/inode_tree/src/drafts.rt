@@ -16,7 +16,7 @@ use super::places::{place, put, take_out};
 use std::alloc::{AllocError, Global};
 
 // What is to stand at an id: no inode, or this one, and whether it asks for the number of the entry.
-pub(crate) type Draft = Option<(Inode, bool)>;
+pub(crate) type Pending = Option<(Inode, bool)>;
 
 // Whose node a change is of.
 pub(crate) fn id_of(change: &Change) -> u64
@@ -39,7 +39,7 @@ fn is_own(stripe: u8, change: &Change) -> bool
 }
 
 // What becomes of an inode by a change of it.
-fn edited(alloc: Global, inode: Inode, asks: bool, change: &Change) -> Result<Draft, AllocError>
+fn edited(alloc: Global, inode: Inode, asks: bool, change: &Change) -> Result<Pending, AllocError>
     ensures { IfOk result (λ after. (number : ℕ) → outcome_by number (bare_draft after) ≡ node_after number change.now (outcome_by number (bare_draft (Some (inode, asks))))) }
 {
     let Inode { meta, content } = inode;
@@ -93,9 +93,9 @@ fn edited(alloc: Global, inode: Inode, asks: bool, change: &Change) -> Result<Dr
 fn current(
     alloc: Global,
     nodes: &[(u64, NodeRef)],
-    drafts: &mut Vec<(u64, Draft)>,
+    drafts: &mut Vec<(u64, Pending)>,
     id: u64,
-) -> Result<Draft, AllocError>
+) -> Result<Pending, AllocError>
     requires nodes { IsTrue (is_sorted nat_cmp nodes.now) }
     requires drafts { IsTrue (is_sorted nat_cmp drafts.old.items) }
     ensures sorted { IsTrue (is_sorted nat_cmp drafts.new.items) }
@@ -109,7 +109,7 @@ fn current(
 }
 
 // The node of an id as a draft.
-fn kept(alloc: Global, nodes: &[(u64, NodeRef)], id: u64) -> Result<Draft, AllocError>
+fn kept(alloc: Global, nodes: &[(u64, NodeRef)], id: u64) -> Result<Pending, AllocError>
     requires { IsTrue (is_sorted nat_cmp nodes.now) }
     ensures { IfOk result (λ draft. (number : ℕ) → outcome_by number (bare_draft draft) ≡ find nat_cmp id nodes.now) }
 {
@@ -123,9 +123,9 @@ fn kept(alloc: Global, nodes: &[(u64, NodeRef)], id: u64) -> Result<Draft, Alloc
 fn drafted(
     alloc: Global,
     nodes: &[(u64, NodeRef)],
-    drafts: &mut Vec<(u64, Draft)>,
+    drafts: &mut Vec<(u64, Pending)>,
     change: &Change,
-) -> Result<Draft, AllocError>
+) -> Result<Pending, AllocError>
     requires nodes { IsTrue (is_sorted nat_cmp nodes.now) }
     requires drafts { IsTrue (is_sorted nat_cmp drafts.old.items) }
     ensures sorted { IsTrue (is_sorted nat_cmp drafts.new.items) }
@@ -146,7 +146,7 @@ fn drafted(
 fn add_draft(
     alloc: Global,
     nodes: &[(u64, NodeRef)],
-    drafts: &mut Vec<(u64, Draft)>,
+    drafts: &mut Vec<(u64, Pending)>,
     change: &Change,
 ) -> Result<(), AllocError>
     requires nodes { IsTrue (is_sorted nat_cmp nodes.now) }
@@ -164,7 +164,7 @@ pub(crate) fn drafts_of(
     stripe: u8,
     nodes: &[(u64, NodeRef)],
     changes: &[Change],
-) -> Result<Vec<(u64, Draft)>, AllocError>
+) -> Result<Vec<(u64, Pending)>, AllocError>
     requires { IsTrue (is_sorted nat_cmp nodes.now) }
     ensures { IfOk result (λ drafts. AreDrafts stripe nodes.now changes.now drafts.items) }
 {

@@ -2,6 +2,7 @@ ghost use Rattle.std.specs.Prelude.{◌≡◌, IfOk};
 ghost use Rattle.inode_tree.specs.Inodes.{bare, numbered};
 
 use super::inode::Inode;
+use super::meta::Meta;
 use std::alloc::{AllocError, Global};
 use std::marker::Model;
 use std::sync::Arc;
@@ -69,6 +70,15 @@ impl NodeRef {
         ensures { numbered self.now.meta.number (bare result.now) ≡ self.now }
     {
         &self.inode
+    }
+
+    /// A copy of the inode's `meta`, with the number that holds. The one error is want of memory.
+    pub fn meta(&self, alloc: Global) -> Result<Meta, AllocError>
+        ensures { IfOk result (λ meta. meta ≡ self.now.meta) }
+    {
+        let mut meta = self.inode.meta.copy(alloc)?;
+        meta.number = self.number;
+        Ok(meta)
     }
 
     /// One more look at the same node. The one error is that no more of them can be counted.

@@ -3,11 +3,11 @@ ghost use Rattle.std.specs.Ordering.{nat_cmp, eq_by_cmp};
 ghost use Rattle.std.specs.FinMap as fin;
 ghost use Rattle.std.specs.FinMap.{find, is_sorted};
 ghost use Rattle.inode_tree.specs.Changes.{applied, asked_by};
-ghost use Rattle.inode_tree.specs.Stripes.{Outcome, StripeRecord, outcome_by, put_in, IsReady};
+ghost use Rattle.inode_tree.specs.Stripes.{Prepared, StripeRecord, outcome_by, put_in, IsReady};
 ghost use Rattle.inode_tree.specs.Drafts.{bare_draft, sealed_entry, IsPutIn};
 
 use super::change::Change;
-use super::drafts::{Draft, drafts_of};
+use super::drafts::{Pending, drafts_of};
 use super::id::NodeId;
 use super::node_ref::NodeRef;
 use super::places::{place, put, take_out};
@@ -15,14 +15,14 @@ use std::alloc::{AllocError, Global};
 use std::marker::Model;
 
 // What is to stand at an id: no node, or this one, and whether it asks for the number of the entry.
-type Outcome = Option<(NodeRef, bool)>;
+type Prepared = Option<(NodeRef, bool)>;
 
 /// The nodes of one of the 64 stripes, and what is ready to be put in.
 #[derive(Drop)]
 pub struct Stripe {
     stripe: u8,
     nodes: Vec<(u64, NodeRef)>,
-    ready: Vec<(u64, Outcome)>,
+    ready: Vec<(u64, Prepared)>,
 }
 
 impl Model for Stripe {
@@ -92,7 +92,7 @@ impl Stripe {
 }
 
 // Outcomes whose nodes can be shared.
-fn sealed(alloc: Global, drafts: Vec<(u64, Draft)>) -> Result<Vec<(u64, Outcome)>, AllocError>
+fn sealed(alloc: Global, drafts: Vec<(u64, Pending)>) -> Result<Vec<(u64, Prepared)>, AllocError>
     ensures { IfOk result (λ ready. ready.items ≡ map sealed_entry drafts.items) }
 {
     let mut ready = Vec::new(alloc);
@@ -102,7 +102,7 @@ fn sealed(alloc: Global, drafts: Vec<(u64, Draft)>) -> Result<Vec<(u64, Outcome)
     Ok(ready)
 }
 
-fn sealed_draft(alloc: Global, draft: Draft) -> Result<Outcome, AllocError>
+fn sealed_draft(alloc: Global, draft: Pending) -> Result<Prepared, AllocError>
     ensures { IfOk result (λ outcome. outcome ≡ bare_draft draft) }
 {
     match draft {
@@ -112,7 +112,7 @@ fn sealed_draft(alloc: Global, draft: Draft) -> Result<Outcome, AllocError>
 }
 
 // Puts in all outcomes, for which there is room.
-fn put_all(nodes: &mut Vec<(u64, NodeRef)>, ready: &mut Vec<(u64, Outcome)>, number: u64)
+fn put_all(nodes: &mut Vec<(u64, NodeRef)>, ready: &mut Vec<(u64, Prepared)>, number: u64)
     requires sorted { IsTrue (is_sorted nat_cmp nodes.old.items) }
     requires room { vec_len nodes.old + vec_len ready.old ≤ vec_capacity nodes.old }
     ensures sorted { IsTrue (is_sorted nat_cmp nodes.new.items) }
@@ -126,7 +126,7 @@ fn put_all(nodes: &mut Vec<(u64, NodeRef)>, ready: &mut Vec<(u64, Outcome)>, num
 }
 
 // Puts in one outcome, for which there is room.
-fn put_outcome(nodes: &mut Vec<(u64, NodeRef)>, id: u64, outcome: Outcome, number: u64)
+fn put_outcome(nodes: &mut Vec<(u64, NodeRef)>, id: u64, outcome: Prepared, number: u64)
     requires sorted { IsTrue (is_sorted nat_cmp nodes.old.items) }
     requires room { vec_len nodes.old < vec_capacity nodes.old }
     ensures sorted { IsTrue (is_sorted nat_cmp nodes.new.items) }

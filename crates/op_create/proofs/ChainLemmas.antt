@@ -13,6 +13,7 @@ use Rattle.namespace_model.specs.Locality.{Among}
 use Rattle.namespace_model.specs.Nodes as model
 use Rattle.namespace_model.specs.Nodes.{Node}
 use Rattle.namespace_model.specs.Outcomes.{once}
+use Rattle.namespace_model.specs.Refusals.{caller_of}
 use Rattle.namespace_model.specs.Trees.{Path}
 use Rattle.namespace_model.proofs.Effected.{same_behind}
 use Rattle.namespace_model.proofs.Lookups.{same_path}
@@ -29,7 +30,7 @@ use Rattle.inode_tree.proofs.MapLemmas.{name_cmp-IsAntisymmetric}
 use Rattle.inode_tree.proofs.PairLemmas.{IsOnce, drawn_links, drawn_unsaid}
 use Rattle.inode_tree.proofs.PromiseLemmas.{changed_by}
 use Rattle.inode_tree.proofs.TurnLemmas.{turned_by}
-use Rattle.op_create.specs.Chains.{chained, new_inode, own_content}
+use Rattle.op_create.specs.Chains.{Maker, chained, new_inode, own_content}
 
 -- ---- the paths of a chain
 
@@ -82,6 +83,10 @@ length_paths done [] = refl
 length_paths done (n ∷ names) = ap suc (length_paths (done ++ n ∷ []) names)
 
 -- ---- the puts of a chain
+
+-- who makes the nodes of an entry
+abbrev pub maker_for : Entry → Maker
+maker_for e = record { owner = (caller_of e).id; moment = e.moment }
 
 pub paths_are : (e : Entry) (m : Making) (x : Node) (done names : Path) → map (λ (y : Path × Put). y.0) (new_nodes e m x done names) ≡ paths_from done names
 paths_are e m x done [] = refl
@@ -180,7 +185,7 @@ module _ (number i : ℕ) (e : Entry) (m : Making) (eff : Effect) (ls : List Rel
   -- The changes of a chain leave at the id what the directory's link and the turns of the new nodes leave there.
   pub chain_same : (x : Node) (done : Path) (above : NodeId) (n : List ℕ) (names : Path) (id : NodeId) (ids : List NodeId) (before : Option BareInode)
       → length ids ≡ length names → SaysAs done (n ∷ names) (numbers_of (id ∷ ids)) → PutsAs x done (n ∷ names)
-      → changed_by number i (chained e m x.group x.acl above (n ∷ names) (id ∷ ids)) before ≡ turned_by number i (made_turns done (n ∷ names) (id ∷ ids)) (linked_above above n id before)
+      → changed_by number i (chained (maker_for e) m x.group x.acl above (n ∷ names) (id ∷ ids)) before ≡ turned_by number i (made_turns done (n ∷ names) (id ∷ ids)) (linked_above above n id before)
   chain_same x done above n [] id ids before long says puts =
       ap (λ (y : BareInode). cond (id.0 == i) (Some y) (linked_above above n id before))
       (inode_is number e.moment (new_node e m x)

@@ -4,7 +4,6 @@ use Rattle.std.proofs.lemmas.Bool.{false≢true}
 use Rattle.std.proofs.lemmas.Option.{same_Some}
 use Rattle.std.specs.Cmp.{unsigned_Decides}
 use Rattle.acl_text.specs.declared.acl.AclPair.{AclPair}
-use Rattle.namespace_model.specs.declared.request.Entry.{Entry}
 use Rattle.namespace_model.specs.Create.{Making}
 use Rattle.namespace_model.specs.Trees.{Path}
 use Rattle.inode_tree.specs.declared.change.Change.{Change}
@@ -26,7 +25,7 @@ use Rattle.inode_tree.specs.Inodes.{BareInode, bare, bare_content, numbered, lin
 use Rattle.inode_tree.proofs.LinkLemmas.{key_same}
 use Rattle.inode_tree.proofs.MapLemmas.{name_cmp-IsAntisymmetric}
 use Rattle.op_create.specs.Creates.{has_no_children}
-use Rattle.op_create.specs.Chains.{chained, new_inode, next_node}
+use Rattle.op_create.specs.Chains.{Maker, chained, new_inode, next_node}
 
 -- ---- ids
 
@@ -71,23 +70,23 @@ last_test k names h = by_rest (drop (suc k) names) refl
 
 -- ---- changes
 
-module _ (e : Entry) (m : Making) (group : List ℕ) (acl : AclPair) (above : NodeId) (n : List ℕ) (id : NodeId) where
+module _ (maker : Maker) (m : Making) (group : List ℕ) (acl : AclPair) (above : NodeId) (n : List ℕ) (id : NodeId) where
   one_more : (names : Path) (ids : List NodeId) (last : Bool) → last ≡ is_none_left names
-      → chained e m group acl above (n ∷ names) (id ∷ ids)
-      ≡ change.Link above n id ∷ change.Put id (new_inode e.moment (next_node e m group acl last)) ∷ chained e m group (next_node e m group acl last).acl id names ids
-  one_more [] ids last is = ap (λ b. change.Link above n id ∷ change.Put id (new_inode e.moment (next_node e m group acl b)) ∷ []) (sym is)
+      → chained maker m group acl above (n ∷ names) (id ∷ ids)
+      ≡ change.Link above n id ∷ change.Put id (new_inode maker.moment (next_node maker m group acl last)) ∷ chained maker m group (next_node maker m group acl last).acl id names ids
+  one_more [] ids last is = ap (λ b. change.Link above n id ∷ change.Put id (new_inode maker.moment (next_node maker m group acl b)) ∷ []) (sym is)
   one_more (o ∷ names) ids last is =
-      ap (λ b. change.Link above n id ∷ change.Put id (new_inode e.moment (next_node e m group acl b)) ∷ chained e m group (next_node e m group acl b).acl id (o ∷ names) ids) (sym is)
+      ap (λ b. change.Link above n id ∷ change.Put id (new_inode maker.moment (next_node maker m group acl b)) ∷ chained maker m group (next_node maker m group acl b).acl id (o ∷ names) ids) (sym is)
 
   -- the first two changes of what is left, and what is left then
   pub chained_next : (names : Path) (ids : List NodeId) (k : ℕ) (last : Bool) → k < length names → last ≡ (k + 1 == length names) → slice_get names k ≡ Some n → slice_get ids k ≡ Some id
-      → chained e m group acl above (drop k names) (drop k ids)
-      ≡ change.Link above n id ∷ change.Put id (new_inode e.moment (next_node e m group acl last)) ∷ chained e m group (next_node e m group acl last).acl id (drop (k + 1) names) (drop (k + 1) ids)
+      → chained maker m group acl above (drop k names) (drop k ids)
+      ≡ change.Link above n id ∷ change.Put id (new_inode maker.moment (next_node maker m group acl last)) ∷ chained maker m group (next_node maker m group acl last).acl id (drop (k + 1) names) (drop (k + 1) ids)
   chained_next names ids k last within is name drawn =
-      ap (λ ns. chained e m group acl above ns (drop k ids)) (at_drop names k n name)
-      ∙ ap (chained e m group acl above (n ∷ drop (suc k) names)) (at_drop ids k id drawn)
+      ap (λ ns. chained maker m group acl above ns (drop k ids)) (at_drop names k n name)
+      ∙ ap (chained maker m group acl above (n ∷ drop (suc k) names)) (at_drop ids k id drawn)
       ∙ one_more (drop (suc k) names) (drop (suc k) ids) last (is ∙ last_test k names within)
-      ∙ ap (λ j. change.Link above n id ∷ change.Put id (new_inode e.moment (next_node e m group acl last)) ∷ chained e m group (next_node e m group acl last).acl id (drop j names) (drop j ids))
+      ∙ ap (λ j. change.Link above n id ∷ change.Put id (new_inode maker.moment (next_node maker m group acl last)) ∷ chained maker m group (next_node maker m group acl last).acl id (drop j names) (drop j ids))
       (let h : suc k ≡ k + 1 = omega arith in h)
 
 -- ---- children
@@ -125,15 +124,15 @@ get_at (x ∷ xs) zero d h = refl
 get_at (x ∷ xs) (suc i) d h = get_at xs i d (let s : length (x ∷ xs) ≡ suc (length xs) = refl in let g : i < length xs = omega arith in g)
 
 -- what was pushed and what is left is what is to be pushed
-pub pushed_on : (e : Entry) (m : Making) (group near : List ℕ) (acl next : AclPair) (above : NodeId) (names : Path) (ids : List NodeId) (k : ℕ) (n : List ℕ) (id : NodeId) (last : Bool) (inode : Inode)
+pub pushed_on : (maker : Maker) (m : Making) (group near : List ℕ) (acl next : AclPair) (above : NodeId) (names : Path) (ids : List NodeId) (k : ℕ) (n : List ℕ) (id : NodeId) (last : Bool) (inode : Inode)
     (before one two whole : List Change)
-    → before ++ chained e m group acl above (drop k names) (drop k ids) ≡ whole → k < length names → last ≡ (k + 1 == length names) → slice_get names k ≡ Some n → slice_get ids k ≡ Some id
-    → near ≡ group → inode ≡ new_inode e.moment (next_node e m near acl last) → next ≡ inode.meta.acl → one ≡ before ++ change.Link above n id ∷ [] → two ≡ one ++ change.Put id inode ∷ []
-    → two ++ chained e m group next id (drop (k + 1) names) (drop (k + 1) ids) ≡ whole
-pushed_on e m group near acl next above names ids k n id last inode before one two whole is within tests name drawn same made inherits first second =
-    let node : inode ≡ new_inode e.moment (next_node e m group acl last) = made ∙ ap (λ g. new_inode e.moment (next_node e m g acl last)) same in
-    ap (λ a. two ++ chained e m group a id (drop (k + 1) names) (drop (k + 1) ids)) (inherits ∙ ap (λ (i : Inode). i.meta.acl) node)
-    ∙ ap (λ l. l ++ chained e m group (next_node e m group acl last).acl id (drop (k + 1) names) (drop (k + 1) ids)) (second ∙ ap (λ (i : Inode). one ++ change.Put id i ∷ []) node ∙ ap (λ l. l ++ change.Put id (new_inode e.moment (next_node e m group acl last)) ∷ []) first ∙ append_assoc before (change.Link above n id ∷ []) (change.Put id (new_inode e.moment (next_node e m group acl last)) ∷ []))
-    ∙ append_assoc before (change.Link above n id ∷ change.Put id (new_inode e.moment (next_node e m group acl last)) ∷ []) (chained e m group (next_node e m group acl last).acl id (drop (k + 1) names) (drop (k + 1) ids))
-    ∙ ap (λ l. before ++ l) (sym (chained_next e m group acl above n id names ids k last within tests name drawn))
+    → before ++ chained maker m group acl above (drop k names) (drop k ids) ≡ whole → k < length names → last ≡ (k + 1 == length names) → slice_get names k ≡ Some n → slice_get ids k ≡ Some id
+    → near ≡ group → inode ≡ new_inode maker.moment (next_node maker m near acl last) → next ≡ inode.meta.acl → one ≡ before ++ change.Link above n id ∷ [] → two ≡ one ++ change.Put id inode ∷ []
+    → two ++ chained maker m group next id (drop (k + 1) names) (drop (k + 1) ids) ≡ whole
+pushed_on maker m group near acl next above names ids k n id last inode before one two whole is within tests name drawn same made inherits first second =
+    let node : inode ≡ new_inode maker.moment (next_node maker m group acl last) = made ∙ ap (λ g. new_inode maker.moment (next_node maker m g acl last)) same in
+    ap (λ a. two ++ chained maker m group a id (drop (k + 1) names) (drop (k + 1) ids)) (inherits ∙ ap (λ (i : Inode). i.meta.acl) node)
+    ∙ ap (λ l. l ++ chained maker m group (next_node maker m group acl last).acl id (drop (k + 1) names) (drop (k + 1) ids)) (second ∙ ap (λ (i : Inode). one ++ change.Put id i ∷ []) node ∙ ap (λ l. l ++ change.Put id (new_inode maker.moment (next_node maker m group acl last)) ∷ []) first ∙ append_assoc before (change.Link above n id ∷ []) (change.Put id (new_inode maker.moment (next_node maker m group acl last)) ∷ []))
+    ∙ append_assoc before (change.Link above n id ∷ change.Put id (new_inode maker.moment (next_node maker m group acl last)) ∷ []) (chained maker m group (next_node maker m group acl last).acl id (drop (k + 1) names) (drop (k + 1) ids))
+    ∙ ap (λ l. before ++ l) (sym (chained_next maker m group acl above n id names ids k last within tests name drawn))
     ∙ is

@@ -1,16 +1,18 @@
 -- The draft by which new nodes come to stand is that of the step.
-use Rattle.std.proofs.Common.{◌≡◌, ◌≢◌, ℕ, zero, suc, pred, ◌+◌, ◌≤◌, ◌==◌, Bool, true, false, cond, ◌||◌, nat_lt, leb, List, [], ◌∷◌, ◌++◌, map, flat_map, zip, length, Option, Some, None, option_and_then, option_map, IsSome, refl, ap, sym, subst, ◌∙◌, append-nil, arith}
+use Rattle.std.proofs.Common.{◌≡◌, ◌≢◌, ℕ, zero, suc, pred, ◌+◌, ◌≤◌, ◌==◌, Bool, true, false, cond, ◌||◌, nat_lt, leb, List, [], ◌∷◌, ◌++◌, map, flat_map, zip, length, Option, Some, None, option_and_then, option_map, IsSome, Result, Ok, Err, refl, ap, sym, ◌∙◌, append-nil, arith}
 use Rattle.std.proofs.lemmas.Bool.Decides.{nat_tests}
 use Rattle.std.specs.Cmp.{unsigned_Decides}
 use Rattle.std.specs.Ordering.{eq_by_cmp}
 use Rattle.std.specs.FinMap.{find}
 use Rattle.path_text.specs.Paths.{path_cmp}
+use Rattle.namespace_model.specs.declared.caller.Caller.{Caller}
 use Rattle.namespace_model.specs.declared.request.Entry.{Entry}
 use Rattle.namespace_model.specs.declared.request.Request.{Request}
-use Rattle.namespace_model.specs.Create.{Making, create, made, new_nodes}
+use Rattle.namespace_model.specs.Create.{Making, made, new_nodes}
 use Rattle.namespace_model.specs.Effects.{Put, Effect}
 use Rattle.namespace_model.specs.Nodes.{Node}
 use Rattle.namespace_model.specs.Outcomes.{Outcome, reading, once, without_repeats}
+use Rattle.namespace_model.specs.Refusals.{caller_of}
 use Rattle.namespace_model.specs.Replies.{success, stamp_fields}
 use Rattle.namespace_model.specs.Sound.{IsSound}
 use Rattle.namespace_model.specs.Step.{acts, closing, outcome, with_close}
@@ -19,18 +21,19 @@ use Rattle.namespace_model.proofs.Lookups.{same_path}
 use Rattle.namespace_model.proofs.Prefixes.{length_append}
 use Rattle.inode_tree.specs.declared.change.Change.TheVariants as change
 use Rattle.inode_tree.specs.declared.draft.Draft.{Draft}
+use Rattle.inode_tree.specs.declared.draft.EvalStop.TheVariants as stop
 use Rattle.inode_tree.specs.declared.fresh.Fresh.{Fresh}
 use Rattle.inode_tree.specs.declared.id.NodeId.{NodeId}
 use Rattle.inode_tree.specs.declared.need.Need.{Need}
 use Rattle.inode_tree.specs.declared.placed.Placed.{Placed}
-use Rattle.inode_tree.specs.After.{Relink, Turn, stays_at, gone, making_of, turned, turns, turns_by, turns_on, relinks, relinked_in, known, with_id, drawn_ids, outcome_on}
+use Rattle.inode_tree.specs.After.{Relink, Turn, stays_at, gone, making_of as turns_of, turned, turns, turns_by, turns_on, relinks, relinked_in, known, with_id, drawn_ids, outcome_on}
 use Rattle.inode_tree.specs.Changes.{linked, node_after}
 use Rattle.inode_tree.specs.Drawing.{next_ids}
-use Rattle.inode_tree.specs.Footprints.{ids_of, lies_in, written_ids}
+use Rattle.inode_tree.specs.Footprints.{ids_of, written_ids}
 use Rattle.inode_tree.specs.Inodes.{BareContent, BareInode, directory, file, node_of}
 use Rattle.inode_tree.specs.Parts.{Parts, inode_at, follow, id_at}
-use Rattle.inode_tree.specs.Promises.{IsEntryOf, numbers_of, is_one_of, IsOfStep, IsDraft, IsNeed, NeedsStripe}
-use Rattle.inode_tree.specs.Views.{Held, Shown, ArePossible, covers}
+use Rattle.inode_tree.specs.Promises.{IsEntryOf, numbers_of, is_one_of, IsOfStep}
+use Rattle.inode_tree.specs.Views.{Held, Shown, ArePossible}
 use Rattle.inode_tree.proofs.FrameLemmas.{follow-append, short_id}
 use Rattle.inode_tree.proofs.IndexLemmas.{reached_short}
 use Rattle.inode_tree.proofs.LinkLemmas.{last_link, path_differs}
@@ -38,13 +41,16 @@ use Rattle.inode_tree.proofs.PairLemmas.{drawn_links}
 use Rattle.inode_tree.proofs.PromiseLemmas.{of_step, outcome_there, changed_by}
 use Rattle.inode_tree.proofs.TurnLemmas.{turned_by}
 use Rattle.path_walk.specs.Holds.{AreHeldToWrite, LacksStripe}
-use Rattle.path_walk.specs.Visits.{AreLookedAt}
+use Rattle.path_walk.specs.declared.call.Call.{Call}
+use Rattle.path_walk.specs.Calls.{IsCall, Answers}
+use Rattle.path_walk.proofs.HoldLemmas.{written_need}
 use Rattle.path_walk.proofs.SetLemmas.{ids_once}
+use Rattle.op_create.specs.declared.nodes.NewNode.{NewNode}
 use Rattle.op_create.specs.declared.place.Place.{Place}
-use Rattle.op_create.specs.Creates.{IsOfCreate, making_of as making_by, asked, IsComing, IsPlace, IsAbove, replaced_path}
-use Rattle.op_create.specs.Chains.{chained, dropped, to_write, IsMade}
-use Rattle.op_create.proofs.ChainLemmas.{paths_from, paths_are, not_among, chain_once, once_all, length_paths, none_put, SaysAs, links_here, chain_same}
-use Rattle.op_create.proofs.CreateLemmas.{step_is}
+use Rattle.op_create.specs.Creates.{IsCreate, making_of, IsPlace, LeadsTo, replaced_path}
+use Rattle.op_create.specs.Chains.{Maker, maker_of, chained, dropped, to_write, IsMade}
+use Rattle.op_create.proofs.ChainLemmas.{maker_for, paths_from, paths_are, not_among, chain_once, once_all, length_paths, none_put, SaysAs, links_here, chain_same}
+use Rattle.op_create.proofs.CreateLemmas.{caller_is, step_is}
 
 -- ---- truth values
 
@@ -97,7 +103,7 @@ gone_of (Some a) = gone a.0 ∷ []
 
 module _ (puts : List (Path × Put)) (p path : Path) (base : NodeId) (ls : List Relink) (drawn : List (Path × ℕ)) (none : find path_cmp p puts ≡ None) (differs : p ≢ path) where
   abbrev makings_of : Option NodeId → List Turn
-  makings_of old = flat_map (making_of (effect_of puts old path) ls) drawn
+  makings_of old = flat_map (turns_of (effect_of puts old path) ls) drawn
 
   abbrev old_turn : NodeId → Bool → Turn
   old_turn a b = cond (b || false) (gone a.0) (stays_at a.0 path (find path_cmp path puts) ls)
@@ -109,13 +115,10 @@ module _ (puts : List (Path × Put)) (p path : Path) (base : NodeId) (ls : List 
       ∙ ap (λ o. stays_at base.0 p o ls ∷ old_turn a (eq_by_cmp path_cmp path path) ∷ makings_of (Some a)) none
       ∙ ap (λ b. stays_at base.0 p None ls ∷ old_turn a b ∷ makings_of (Some a)) (same_path path)
 
-module _ (request : Request) (moment : ℕ) (p : Path) (n : List ℕ) (names : Path) (base : NodeId) (x : Node) (id : NodeId) (ids : List NodeId) (long : length ids ≡ length names) (old : Option NodeId)
+module _ (en : Placed) (m : Making) (p : Path) (n : List ℕ) (names : Path) (base : NodeId) (x : Node) (id : NodeId) (ids : List NodeId) (long : length ids ≡ length names) (old : Option NodeId)
     (alone : IsSome old → names ≡ []) where
   abbrev e : Entry
-  e = asked request moment
-
-  abbrev m : Making
-  m = making_by request.op
+  e = en.entry
 
   abbrev path : Path
   path = p ++ n ∷ names
@@ -139,7 +142,7 @@ module _ (request : Request) (moment : ℕ) (p : Path) (n : List ℕ) (names : P
   ls = relinks eff kn (zip fresh_paths numbers)
 
   abbrev makings : List Turn
-  makings = flat_map (making_of eff ls) (zip (paths_from p (n ∷ names)) numbers)
+  makings = flat_map (turns_of eff ls) (zip (paths_from p (n ∷ names)) numbers)
 
   ls_is : ls ≡ map (λ (q : Path). (q, None)) (replaced_path old path) ++ drawn_links (zip (paths_from p (n ∷ names)) numbers)
   ls_is = append-nil (map (λ (q : Path). (q, None)) (replaced_path old path) ++ drawn_links (zip fresh_paths numbers))
@@ -168,7 +171,7 @@ module _ (request : Request) (moment : ℕ) (p : Path) (n : List ℕ) (names : P
   turns_here : turns eff ls kn (zip fresh_paths numbers) ≡ stays_at base.0 p None ls ∷ (gone_of old ++ makings)
   turns_here =
       turns_are puts p path base ls (zip fresh_paths numbers) (none_put e m x p (n ∷ names)) longer_path old
-      ∙ ap (λ (f : List Path). stays_at base.0 p None ls ∷ (gone_of old ++ flat_map (making_of eff ls) (zip f numbers))) (paths_are e m x p (n ∷ names))
+      ∙ ap (λ (f : List Path). stays_at base.0 p None ls ∷ (gone_of old ++ flat_map (turns_of eff ls) (zip f numbers))) (paths_are e m x p (n ∷ names))
 
   -- the directory's turn is its link
   base_after : (number : ℕ) (before : Option BareInode) → node_after number (change.Link base n id) before ≡ turned number (stays_at base.0 p None ls) before
@@ -180,15 +183,15 @@ module _ (request : Request) (moment : ℕ) (p : Path) (n : List ℕ) (names : P
       linked_is (file bytes staged) = refl
 
   same_after : (number i : ℕ) (before : Option BareInode) → ((a : NodeId) → old ≡ Some a → base.0 ≢ a.0)
-      → changed_by number i (dropped old ++ chained e m x.group x.acl base (n ∷ names) (id ∷ ids)) before ≡ turned_by number i (stays_at base.0 p None ls ∷ (gone_of old ++ makings)) before
+      → changed_by number i (dropped old ++ chained (maker_for e) m x.group x.acl base (n ∷ names) (id ∷ ids)) before ≡ turned_by number i (stays_at base.0 p None ls ∷ (gone_of old ++ makings)) before
   same_after number i before apart = by_old old apart
     where
-      chain_here : (state : Option BareInode) → changed_by number i (chained e m x.group x.acl base (n ∷ names) (id ∷ ids)) state
+      chain_here : (state : Option BareInode) → changed_by number i (chained (maker_for e) m x.group x.acl base (n ∷ names) (id ∷ ids)) state
           ≡ turned_by number i makings (cond (base.0 == i) (node_after number (change.Link base n id) state) state)
       chain_here state = chain_same number i e m eff ls x p base n names id ids state long (says number i) (λ q h. refl)
 
       by_old : (o : Option NodeId) → ((a : NodeId) → o ≡ Some a → base.0 ≢ a.0)
-          → changed_by number i (dropped o ++ chained e m x.group x.acl base (n ∷ names) (id ∷ ids)) before ≡ turned_by number i (stays_at base.0 p None ls ∷ (gone_of o ++ makings)) before
+          → changed_by number i (dropped o ++ chained (maker_for e) m x.group x.acl base (n ∷ names) (id ∷ ids)) before ≡ turned_by number i (stays_at base.0 p None ls ∷ (gone_of o ++ makings)) before
       by_old None apart = chain_here before ∙ ap (λ o. turned_by number i makings (cond (base.0 == i) o before)) (base_after number before)
       by_old (Some a) apart =
           chain_here (cond (a.0 == i) None before)
@@ -199,13 +202,11 @@ module _ (request : Request) (moment : ℕ) (p : Path) (n : List ℕ) (names : P
   -- ---- the step
 
   abbrev made_outcome : List Path → Outcome
-  made_outcome paths = without_repeats (with_close request.close (reading paths (made e m p (replaced_path old path) puts)))
+  made_outcome paths = without_repeats (with_close e.request.close (reading paths (made e m p (replaced_path old path) puts)))
 
-  outcome_is : (t : Tree) (en : Entry) (paths : List Path) → en.request.close ≡ request.close → acts t en en.request.op ≡ reading paths (made e m p (replaced_path old path) puts) → outcome t en ≡ made_outcome paths
+  outcome_is : (t : Tree) (paths : List Path) → acts t e e.request.op ≡ reading paths (made e m p (replaced_path old path) puts) → outcome t e ≡ made_outcome paths
   unfolding outcome
-  outcome_is t en paths closes h =
-      ap (λ (o : Outcome). without_repeats (with_close en.request.close o)) h
-      ∙ ap (λ c. without_repeats (with_close c (reading paths (made e m p (replaced_path old path) puts)))) closes
+  outcome_is t paths h = ap (λ (o : Outcome). without_repeats (with_close e.request.close o)) h
 
   many_paths : length fresh_paths ≡ length (n ∷ names)
   many_paths = ap (λ (l : List Path). length l) (paths_are e m x p (n ∷ names)) ∙ length_paths p (n ∷ names)
@@ -216,11 +217,11 @@ module _ (request : Request) (moment : ℕ) (p : Path) (n : List ℕ) (names : P
       (not_less (length numbers) (length fresh_paths) (length_numbers (id ∷ ids) ∙ ap suc long ∙ sym many_paths))
       ∙ turns_here
 
-  module _ (shown : Shown) (fresh : Fresh) (parts : Parts) (t : Tree) (en : Placed) (possible : ArePossible shown fresh.pass fresh.used parts t) (of : IsEntryOf request moment fresh t en)
-      (of_create : IsOfCreate request.op) (paths : List Path) (comes : create t e m ≡ reading paths (made e m p (replaced_path old path) puts))
+  module _ (shown : Shown) (request : Request) (moment : ℕ) (fresh : Fresh) (parts : Parts) (t : Tree) (possible : ArePossible shown fresh.pass fresh.used parts t)
+      (of : IsEntryOf request moment fresh t en) (paths : List Path) (steps : acts t e e.request.op ≡ reading paths (made e m p (replaced_path old path) puts))
       (leads : follow parts 0 p ≡ Some base.0) (first : follow parts 0 (p ++ n ∷ []) ≡ option_map (λ (i : NodeId). i.0) old) (next : id ∷ ids ≡ next_ids fresh.pass fresh.used (suc (length names))) where
-    made_here : outcome t en.entry ≡ made_outcome paths
-    made_here = outcome_is t en.entry paths (ap (λ (r : Request). r.close) of.asks) (step_is t en.entry request moment of_create of.asks of.comes_at ∙ comes)
+    made_here : outcome t e ≡ made_outcome paths
+    made_here = outcome_is t paths steps
 
     made_on : outcome_on parts en ≡ made_outcome paths
     made_on = outcome_there shown request moment fresh parts t en possible of ∙ made_here
@@ -272,65 +273,75 @@ module _ (request : Request) (moment : ℕ) (p : Path) (n : List ℕ) (names : P
         long_path : p ≢ p ++ n ∷ []
         long_path e = let l : length (p ++ n ∷ []) ≡ length p + 1 = length_append p (n ∷ []) in let k : length p ≡ length (p ++ n ∷ []) = ap (λ (r : Path). length r) e in omega arith
 
-    pub made_of_step : (d : Draft) (reads writes : List NodeId) → IsSound request → numbers_of reads ≡ ids_of parts paths → writes ≡ to_write base old (id ∷ ids)
+    pub made_of_step : (d : Draft) (reads writes : List NodeId) (maker : Maker) → maker ≡ maker_for e → IsSound request → numbers_of reads ≡ ids_of parts paths → writes ≡ to_write base old (id ∷ ids)
         → d.reply ≡ closing request.close (success 201 (stamp_fields moment)) → d.reads.items ≡ reads → d.writes.items ≡ writes
-        → d.changes.items ≡ dropped old ++ chained e m x.group x.acl base (n ∷ names) (id ∷ ids) → d.drawn ≡ length (id ∷ ids) → IsOfStep d parts t en
-    made_of_step d reads writes sound read writes_is replies reads_are writes_are changes_are draws =
+        → d.changes.items ≡ dropped old ++ chained maker m x.group x.acl base (n ∷ names) (id ∷ ids) → d.drawn ≡ length (id ∷ ids) → IsOfStep d parts t en
+    made_of_step d reads writes maker same sound read writes_is replies reads_are writes_are changes_are draws =
         of_step shown request moment fresh parts t en possible of d sound
-        (replies ∙ sym (ap (λ (o : Outcome). o.reply) made_here))
+        (replies ∙ ap (λ (r : Request). closing r.close (success 201 (stamp_fields moment))) (sym of.asks) ∙ ap (λ k. closing e.request.close (success 201 (stamp_fields k))) (sym of.comes_at)
+        ∙ sym (ap (λ (o : Outcome). o.reply) made_here))
         (draws ∙ ap suc long ∙ sym (ap (λ (o : Outcome). length o.fresh) made_here ∙ many_paths))
         (λ i. ap (λ (l : List NodeId). is_one_of i (numbers_of l)) reads_are ∙ ap (is_one_of i) read
         ∙ sym (ap (λ (o : Outcome). is_one_of i (ids_of parts o.read)) made_on ∙ ap (λ (l : List Path). is_one_of i (ids_of parts (once l))) (append-nil paths) ∙ ids_once parts paths i))
         (λ i. ap (λ (l : List NodeId). is_one_of i (numbers_of l)) (writes_are ∙ writes_is) ∙ sym (ap (is_one_of i) written_are))
-        (λ number i. ap (λ cs. changed_by number i cs (inode_at parts i)) changes_are ∙ same_after number i (inode_at parts i) apart
+        (λ number i. ap (λ cs. changed_by number i cs (inode_at parts i)) (changes_are ∙ ap (λ (k : Maker). dropped old ++ chained k m x.group x.acl base (n ∷ names) (id ∷ ids)) same) ∙ same_after number i (inode_at parts i) apart
         ∙ sym (ap (λ ts. turned_by number i ts (inode_at parts i)) turns_on_are))
 
 -- ---- a place
 
-module _ (held : Held) (shown : Shown) (request : Request) (moment : ℕ) (fresh : Fresh) (of_create : IsOfCreate request.op) (sound : IsSound request)
-    (names : Path) (place : Place) (is_place : IsPlace shown request moment names None place) (new : List NodeId) (next : new ≡ next_ids fresh.pass fresh.used (length names))
-    (writes : List NodeId) (writes_is : writes ≡ to_write place.base place.replaced new) where
+maker_same : (call : Call) (e : Entry) → IsCall call → e.request ≡ call.request.now → e.moment ≡ call.moment → maker_of call ≡ maker_for e
+maker_same call e is asks comes_at =
+    ap (λ (c : Caller). record { owner = c.id; moment = call.moment }) (sym (caller_is e call is asks)) ∙ ap (λ k. record { owner = (caller_of e).id; moment = k }) (sym comes_at)
+
+module _ (held : Held) (shown : Shown) (call : Call) (new : NewNode) (is : IsCreate call new) (place : Place) (stage : IsPlace held shown call new None place)
+    (ids : List NodeId) (next : ids ≡ next_ids call.fresh.pass call.fresh.used (length place.names.now)) (writes : List NodeId) (writes_is : writes ≡ to_write place.base.id place.replaced ids) where
+  abbrev m : Making
+  m = making_of call new
+
+  abbrev x : Node
+  x = node_of place.base.node
+
   -- what is written, and what a draft owes
   abbrev Owes : Path → List NodeId → Parts → Tree → Placed → Type 0
-  Owes ns ids parts t en = (written_ids parts en ≡ numbers_of (to_write place.base place.replaced ids)) × ((d : Draft) → IsMade request moment ns place ids writes d → IsOfStep d parts t en)
+  Owes ns new_ids parts t en = (written_ids parts en ≡ numbers_of (to_write place.base.id place.replaced new_ids))
+      × ((d : Draft) → d.reply ≡ closing call.request.now.close (success 201 (stamp_fields call.moment)) → d.reads.items ≡ place.reads.items → d.writes.items ≡ writes
+      → d.changes.items ≡ dropped place.replaced ++ chained (maker_of call) m x.group x.acl place.base.id ns new_ids → d.drawn ≡ length new_ids → IsOfStep d parts t en)
 
-  owes : (parts : Parts) (t : Tree) (en : Placed) → ArePossible shown fresh.pass fresh.used parts t → IsEntryOf request moment fresh t en → Owes names new parts t en
+  owes : (parts : Parts) (t : Tree) (en : Placed) → ArePossible shown call.fresh.pass call.fresh.used parts t → IsEntryOf call.request.now call.moment call.fresh t en
+      → Owes place.names.now ids parts t en
   owes parts t en possible of =
-      by_names names new next (is_place.comes parts t possible.stands possible.agrees) (is_place.is_above parts t possible.stands possible.agrees) is_place.named writes_is
+      let there = stage.is_place parts t possible.stands possible.agrees in
+      by_names place.names.now ids next there.coming.paths there.coming.read
+      (step_is call new is t en.entry of.asks ∙ there.coming.comes en.entry of.asks of.comes_at)
+      there.leads there.first stage.named writes_is
     where
-      by_names : (ns : Path) (ids : List NodeId) → ids ≡ next_ids fresh.pass fresh.used (length ns)
-          → IsComing parts t request moment place.ids.items
-          (made (asked request moment) (making_by request.op) is_place.above (replaced_path place.replaced (making_by request.op).path)
-          (new_nodes (asked request moment) (making_by request.op) (node_of place.node) is_place.above ns))
-          → IsAbove parts is_place.above ns place → (making_by request.op).path ≡ is_place.above ++ ns → writes ≡ to_write place.base place.replaced ids → Owes ns ids parts t en
-      by_names [] ids drawn coming above named w = absurd above.first
-      by_names (n ∷ ns) [] drawn coming above named w = absurd (let l : 0 ≡ suc (length ns) = ap (λ (l : List NodeId). length l) drawn ∙ length_next fresh.pass fresh.used (suc (length ns)) in omega arith)
-      by_names (n ∷ ns) (id ∷ ids) drawn coming above named w =
-          let long : length ids ≡ length ns = ap pred (ap (λ (l : List NodeId). length l) drawn ∙ length_next fresh.pass fresh.used (suc (length ns))) in
-          let comes = coming.comes
-          ∙ ap (λ q. reading coming.paths (made (asked request moment) (making_by request.op) is_place.above (replaced_path place.replaced q)
-          (new_nodes (asked request moment) (making_by request.op) (node_of place.node) is_place.above (n ∷ ns)))) named in (
-            written_are request moment is_place.above n ns place.base (node_of place.node) id ids long place.replaced above.first.1 shown fresh parts t en possible of of_create coming.paths comes above.leads above.first.0 drawn,
-            λ d is.
-                made_of_step request moment is_place.above n ns place.base (node_of place.node) id ids long place.replaced above.first.1 shown fresh parts t en possible of of_create coming.paths comes above.leads above.first.0 drawn
-                d place.ids.items writes sound coming.read w is.replies is.reads_are is.writes_are is.changes_are is.draws,
+      by_names : (ns : Path) (new_ids : List NodeId) → new_ids ≡ next_ids call.fresh.pass call.fresh.used (length ns) → (paths : List Path) → numbers_of place.reads.items ≡ ids_of parts paths
+          → acts t en.entry en.entry.request.op ≡ reading paths (made en.entry m stage.above (replaced_path place.replaced call.path.now) (new_nodes en.entry m x stage.above ns))
+          → follow parts 0 stage.above ≡ Some place.base.id.0 → LeadsTo parts stage.above ns place.replaced → call.path.now ≡ stage.above ++ ns
+          → writes ≡ to_write place.base.id place.replaced new_ids → Owes ns new_ids parts t en
+      by_names [] new_ids drawn paths read steps leads first named w = absurd first
+      by_names (n ∷ ns) [] drawn paths read steps leads first named w =
+          absurd (let l : 0 ≡ suc (length ns) = ap (λ (l : List NodeId). length l) drawn ∙ length_next call.fresh.pass call.fresh.used (suc (length ns)) in omega arith)
+      by_names (n ∷ ns) (id ∷ more) drawn paths read steps leads first named w =
+          let long : length more ≡ length ns = ap pred (ap (λ (l : List NodeId). length l) drawn ∙ length_next call.fresh.pass call.fresh.used (suc (length ns))) in
+          let goes = steps ∙ ap (λ q. reading paths (made en.entry m stage.above (replaced_path place.replaced q) (new_nodes en.entry m x stage.above (n ∷ ns)))) named in (
+            written_are en m stage.above n ns place.base.id x id more long place.replaced first.1 shown call.request.now call.moment call.fresh parts t possible of paths goes leads first.0 drawn,
+            λ d replies reads_are writes_are changes_are draws.
+                made_of_step en m stage.above n ns place.base.id x id more long place.replaced first.1 shown call.request.now call.moment call.fresh parts t possible of paths goes leads first.0 drawn
+                d place.reads.items writes (maker_of call) (maker_same call en.entry is.is_call of.asks of.comes_at) is.is_call.sound read w replies reads_are writes_are changes_are draws,
           )
 
   -- all that is to be written is held exclusively, so the nodes are made
-  pub made_draft : (d : Draft) → AreHeldToWrite held writes → AreLookedAt held shown place.ids.items → IsMade request moment names place new writes d → IsDraft held shown request moment fresh d
-  made_draft d exclusive looked is = record {
-    of_step = λ parts t en possible of. (owes parts t en possible of).1 d is;
-    held_exclusively = λ i h. exclusive i (sym (ap (λ (l : List NodeId). is_one_of i (numbers_of l)) is.writes_are) ∙ h);
-    held_shared = λ i h. (looked i (sym (ap (λ (l : List NodeId). is_one_of i (numbers_of l)) is.reads_are) ∙ h)).0;
-    looked_at = λ i h. (looked i (sym (ap (λ (l : List NodeId). is_one_of i (numbers_of l)) is.reads_are) ∙ h)).1;
+  pub made_draft : (d : Draft) → AreHeldToWrite held writes → IsMade call new place ids writes d → Answers held shown call (Ok d)
+  made_draft d exclusive made_is = record {
+    of_step = λ parts t en possible of. (owes parts t en possible of).1 d made_is.replies made_is.reads_are made_is.writes_are made_is.changes_are made_is.draws;
+    held_exclusively = λ i h. exclusive i (sym (ap (λ (l : List NodeId). is_one_of i (numbers_of l)) made_is.writes_are) ∙ h);
+    held_shared = λ i h. (stage.looked i (sym (ap (λ (l : List NodeId). is_one_of i (numbers_of l)) made_is.reads_are) ∙ h)).0;
+    looked_at = λ i h. (stage.looked i (sym (ap (λ (l : List NodeId). is_one_of i (numbers_of l)) made_is.reads_are) ∙ h)).1;
   }
 
   -- a stripe of it is not, so it is needed
-  pub write_need : (need : Need) → LacksStripe held writes need → IsNeed held shown request moment fresh need
-  write_need need lacks = record {
-    within = lacks.within;
-    lacks = ap (covers (held need.stripe)) lacks.asks ∙ lacks.lacks;
-    needed = λ parts t en possible of.
-        subst (λ k. NeedsStripe k need.stripe parts en) (sym lacks.asks)
-        (ap (lies_in need.stripe) ((owes parts t en possible of).0 ∙ ap (λ (l : List NodeId). numbers_of l) (sym writes_is)) ∙ lacks.of_one);
-  }
+  pub write_need : (need : Need) → LacksStripe held writes need → Answers held shown call (Err (stop.Need need))
+  write_need need lacks =
+      written_need held shown call.request.now call.moment call.fresh writes need lacks (λ parts t en possible of i h.
+      ap (is_one_of i) ((owes parts t en possible of).0 ∙ ap (λ (l : List NodeId). numbers_of l) (sym writes_is)) ∙ h)

@@ -1,4 +1,4 @@
--- What comes of a request to make a node by the end of the way to its parent, and by what was found there.
+-- What comes of a call that makes a node by the end of the way to its parent, and by what was found there.
 use Rattle.std.proofs.Common.{◌≡◌, ◌≢◌, inl, inr, ℕ, zero, suc, ◌+◌, ◌-◌, ◌==◌, ◌<◌, ◌≤◌, Bool, true, false, cond, not, ◌&&◌, List, [], ◌∷◌, ◌++◌, length, take, drop, Option, Some, None, option_map, is_some, unwrap_or, Result, Ok, Err, refl, ap, sym, subst, ◌∙◌, append_assoc, append-nil, arith}
 use Rattle.std.proofs.lemmas.Bool.{false≢true}
 use Rattle.std.proofs.lemmas.Bool.Decides.{leb_tells}
@@ -20,7 +20,7 @@ use Rattle.namespace_model.specs.Create.{Making, create, create_from, create_in,
 use Rattle.namespace_model.specs.Locality.{Among}
 use Rattle.namespace_model.specs.Nodes.{Node, blank, is_directory, is_directory_content, has_kind}
 use Rattle.namespace_model.specs.Outcomes.{Outcome, answered, reading, unless, noted}
-use Rattle.namespace_model.specs.Refusals.{caller_of, nobody, lacks, or_else, refuse_if, is_guarded, exists_already, is_unmet, is_unmet_without}
+use Rattle.namespace_model.specs.Refusals.{caller_of, lacks, or_else, refuse_if, is_guarded, exists_already, is_unmet, is_unmet_without}
 use Rattle.namespace_model.specs.Sound.{IsOperation}
 use Rattle.namespace_model.specs.Trees.{Path, Tree, at, parent, is_bare, children, is_child}
 use Rattle.namespace_model.specs.Walks.{ended, hand_on}
@@ -29,38 +29,41 @@ use Rattle.namespace_model.proofs.WayLemmas.{reading_both}
 use Rattle.namespace_model.proofs.Effected.{drop_front}
 use Rattle.namespace_model.proofs.Lookups.{among_keys, keys_among}
 use Rattle.namespace_model.proofs.Prefixes.{length_append, name_child, child_name, parent_name}
-use Rattle.inode_tree.specs.declared.draft.EvalStop.{EvalStop}
 use Rattle.inode_tree.specs.declared.draft.EvalStop.TheVariants as stop
-use Rattle.inode_tree.specs.declared.fresh.Fresh.{Fresh}
 use Rattle.inode_tree.specs.declared.id.NodeId.{NodeId}
 use Rattle.inode_tree.specs.declared.need.Need.{Need}
 use Rattle.inode_tree.specs.ChildLists.{name_cmp}
 use Rattle.inode_tree.specs.Index.{IsIndex}
 use Rattle.inode_tree.specs.Inodes.{BareInode, BareContent, directory, file, links_in, node_content, node_of}
 use Rattle.inode_tree.specs.Parts.{Parts, inode_at, child_of, follow}
-use Rattle.inode_tree.specs.Promises.{numbers_of, IsEvaluated}
+use Rattle.inode_tree.specs.Promises.{numbers_of}
 use Rattle.inode_tree.specs.Stands.{Stands}
-use Rattle.inode_tree.specs.Views.{Held, Shown, Agrees, Agreeing, Grows}
+use Rattle.inode_tree.specs.Views.{Held, Shown, Agrees, Agreeing}
 use Rattle.inode_tree.proofs.IndexLemmas.{index_from_stands}
 use Rattle.inode_tree.proofs.LinkLemmas.{key_same}
 use Rattle.inode_tree.proofs.MapLemmas.{name_cmp-IsAntisymmetric}
 use Rattle.inode_tree.proofs.TurnLemmas.{number_differs}
+use Rattle.path_walk.specs.declared.call.Call.{Call}
 use Rattle.path_walk.specs.declared.find.Find.{Find}
 use Rattle.path_walk.specs.declared.find.Found.{Found}
 use Rattle.path_walk.specs.declared.find.Found.TheVariants as found
+use Rattle.path_walk.specs.declared.parent.Parent.{Parent}
+use Rattle.path_walk.specs.declared.stop.Base.{Base}
 use Rattle.path_walk.specs.declared.stop.End.{End}
 use Rattle.path_walk.specs.declared.stop.End.TheVariants as end
 use Rattle.path_walk.specs.declared.stop.Visit.{Visit}
 use Rattle.path_walk.specs.Answers.{stop_reply}
-use Rattle.path_walk.specs.Finds.{last_read, read_to, IsFound, IsFindFor, IsLook, IsLookAs}
+use Rattle.path_walk.specs.Calls.{Answers}
+use Rattle.path_walk.specs.Finds.{last_read, read_to, IsFound, IsPlaced, IsFindFor}
+use Rattle.path_walk.specs.Parents.{IsParent, IsParentIn}
 use Rattle.path_walk.specs.Visits.{end_of, IsVisitFor, AreLookedAt, IsOnTheWay, NeedsChild}
 use Rattle.path_walk.proofs.AnswerLemmas.{outcome_reads, read_need, way_need}
-use Rattle.path_walk.proofs.FindLemmas.{look_finds, child_needs}
-use Rattle.path_walk.proofs.StepLemmas.{reached_way}
-use Rattle.path_walk.proofs.TrailLemmas.{agreed, agrees_before, parent_take}
+use Rattle.path_walk.proofs.FindLemmas.{child_needs}
+use Rattle.path_walk.proofs.QuestionLemmas.{unless_both}
+use Rattle.op_create.specs.declared.nodes.NewNode.{NewNode}
 use Rattle.op_create.specs.declared.place.Place.{Place}
-use Rattle.op_create.specs.Creates.{IsOfCreate, making_of as making_by, asked, has_no_children, refusal_over, refusal_by, Comes, IsPlace, LeadsTo, replaced_path}
-use Rattle.op_create.proofs.CreateLemmas.{create_is, step_is}
+use Rattle.op_create.specs.Creates.{IsCreate, making_of, asked, has_no_children, refusal_over, refusal_by, replaced_by, IsComing, IsPlace, LeadsTo, replaced_path}
+use Rattle.op_create.proofs.CreateLemmas.{create_is, caller_is, step_is}
 
 -- ---- names
 
@@ -73,32 +76,35 @@ take_front : (d r : Path) → take (length d) (d ++ r) ≡ d
 take_front [] r = refl
 take_front (n ∷ d) r = ap (λ (l : Path). n ∷ l) (take_front d r)
 
--- all names but the last are those of the parent
-pub front_is_parent : (path names front : Path) → path ≢ [] → names ≡ path → front ≡ take (length names - 1) path → front ≡ parent path
-front_is_parent path names front some same is = is ∙ parent_take path some (length names - 1) (one_less path some (ap (λ (l : Path). length l) same))
+-- as many names as stand behind the first are those of the parent
+front_is_parent : (path : Path) (n : List ℕ) → path ≡ parent path ++ n ∷ [] → take (length (drop 1 path)) path ≡ parent path
+front_is_parent path n named =
+    let long : length path ≡ length (parent path) + 1 = ap (λ (l : Path). length l) named ∙ length_append (parent path) (n ∷ []) in
+    let k : length (drop 1 path) ≡ length (parent path) = one_less path (length (parent path)) long in
+    ap (λ j. take j path) k ∙ ap (take (length (parent path))) named ∙ take_front (parent path) (n ∷ [])
   where
-    one_less : (p : Path) → p ≢ [] → length names ≡ length p → (length names - 1) + 1 ≡ length p
-    one_less [] none e = absurd (none refl)
-    one_less (n ∷ p) none e = let k : length (n ∷ p) ≡ suc (length p) = refl in omega arith
+    one_less : (xs : Path) (k : ℕ) → length xs ≡ k + 1 → length (drop 1 xs) ≡ k
+    one_less [] k e = absurd (let z : 0 ≡ k + 1 = e in omega arith)
+    one_less (x ∷ xs) k e = let s : length (x ∷ xs) ≡ suc (length xs) = refl in let g : length xs ≡ k = omega arith in g
 
--- the last name alone
-pub last_alone : (path names : Path) (n : List ℕ) → names ≡ path → path ≡ parent path ++ n ∷ [] → take (length names - (length names - 1)) (drop (length names - 1) names) ≡ n ∷ []
-last_alone path names n same last =
-    let long : length names ≡ length (parent path) + 1 = ap (λ (l : Path). length l) (same ∙ last) ∙ length_append (parent path) (n ∷ []) in
-    let one : length names - (length names - 1) ≡ 1 = omega arith in
-    let place : length names - 1 ≡ length (parent path) = omega arith in
-    ap (λ k. take k (drop (length names - 1) names)) one ∙ ap (λ k. take 1 (drop k names)) place ∙ ap (λ l. take 1 (drop (length (parent path)) l)) (same ∙ last)
-    ∙ ap (take 1) (drop_front (parent path) (n ∷ []))
-
--- all that is left
-pub all_left : (k : ℕ) (names : Path) → take (length names - k) (drop k names) ≡ drop k names
-all_left zero names = ap (λ j. take j names) (let h : length names - 0 ≡ length names = omega arith in h) ∙ take_all names
+-- the names behind the filesystem from this one on
+pub names_left : (k : ℕ) (path names : Path) → names ≡ drop 1 path → 1 < k → take (length names - (k - 2)) (drop (k - 2) names) ≡ drop (k - 1) path
+names_left k path names are deep =
+    all_left (k - 2) names ∙ ap (drop (k - 2)) are ∙ one_more (k - 2) path ∙ ap (λ j. drop j path) (let h : suc (k - 2) ≡ k - 1 = omega arith in h)
   where
     take_all : (xs : Path) → take (length xs) xs ≡ xs
     take_all [] = refl
     take_all (x ∷ xs) = ap (λ (l : Path). x ∷ l) (take_all xs)
-all_left (suc k) [] = ap (λ j. take j (drop (suc k) [])) (let h : 0 - suc k ≡ 0 = omega arith in h)
-all_left (suc k) (x ∷ xs) = ap (λ j. take j (drop k xs)) (let s : length (x ∷ xs) ≡ suc (length xs) = refl in let h : length (x ∷ xs) - suc k ≡ length xs - k = omega arith in h) ∙ all_left k xs
+
+    all_left : (j : ℕ) (xs : Path) → take (length xs - j) (drop j xs) ≡ drop j xs
+    all_left zero xs = ap (λ i. take i xs) (let h : length xs - 0 ≡ length xs = omega arith in h) ∙ take_all xs
+    all_left (suc j) [] = ap (λ i. take i (drop (suc j) [])) (let h : 0 - suc j ≡ 0 = omega arith in h)
+    all_left (suc j) (x ∷ xs) = ap (λ i. take i (drop j xs)) (let s : length (x ∷ xs) ≡ suc (length xs) = refl in let h : length (x ∷ xs) - suc j ≡ length xs - j = omega arith in h) ∙ all_left j xs
+
+    one_more : (j : ℕ) (xs : Path) → drop j (drop 1 xs) ≡ drop (suc j) xs
+    one_more zero [] = refl
+    one_more (suc j) [] = refl
+    one_more j (x ∷ xs) = refl
 
 -- ---- a way on which a node is missing
 
@@ -223,10 +229,6 @@ nowhere parts t stands q none = by_id (follow parts 0 q) refl
 
 -- ---- refusals
 
-unless_both : (a b : Option Reply) (o : Outcome) → unless a (unless b o) ≡ unless (or_else a b) o
-unless_both None b o = refl
-unless_both (Some reply) b o = refl
-
 of_kind : (c : BareContent) → (is_directory_content (node_content c) && not (fin.len (links_in c) == 0)) ≡ not (fin.len (links_in c) == 0)
 of_kind (directory links) = refl
 of_kind (file bytes staged) = sym (ap (λ k. not (k == 0)) (fin.len-empty name_cmp ℕ))
@@ -248,10 +250,13 @@ module _ (t : Tree) (e : Entry) (m : Making) (dir : Node) (y : BareInode) where
   abbrev filled : Option Reply
   filled = refuse_if (not (has_no_children y)) DirectoryNotEmpty
 
+  abbrev over_refusal : Option Reply
+  over_refusal = or_else guarded (or_else taken (or_else unmet (or_else other_kind filled)))
+
   abbrev rest : Outcome
   rest = made_below e m (parent m.path) dir (m.path ∷ [])
 
-  over_is : is_bare t m.path ≡ has_no_children y → create_over t e m dir (node_of y) ≡ unless (refusal_over e m dir y) (made_below e m (parent m.path) dir (m.path ∷ []))
+  over_is : is_bare t m.path ≡ has_no_children y → create_over t e m dir (node_of y) ≡ unless over_refusal (made_below e m (parent m.path) dir (m.path ∷ []))
   over_is bare =
       ap (λ b. unless guarded (unless taken (unless unmet (unless other_kind (unless (refuse_if (is_directory (node_of y) && not b) DirectoryNotEmpty) rest))))) bare
       ∙ ap (λ b. unless guarded (unless taken (unless unmet (unless other_kind (unless (refuse_if b DirectoryNotEmpty) rest))))) (of_kind y.content)
@@ -259,34 +264,6 @@ module _ (t : Tree) (e : Entry) (m : Making) (dir : Node) (y : BareInode) where
       ∙ ap (λ o. unless guarded (unless taken o)) (unless_both unmet (or_else other_kind filled) rest)
       ∙ ap (unless guarded) (unless_both taken (or_else unmet (or_else other_kind filled)) rest)
       ∙ unless_both guarded (or_else taken (or_else unmet (or_else other_kind filled))) rest
-
--- ---- the path
-
--- the path of a sound request has from two to 60 names
-pub path_is_short : (o : Op) (body : ℕ) → IsOfCreate o → IsOperation o body → (2 ≤ length (making_by o).path) × (length (making_by o).path ≤ 60)
-path_is_short (op.Create path kind permissions umask props) body h k = (k.0.parts, k.0.limits.depth_within)
-path_is_short (op.ListFilesystems prefix token max) body h k = absurd h
-path_is_short (op.CreateFilesystem path props) body h k = absurd h
-path_is_short (op.GetFilesystem path) body h k = absurd h
-path_is_short (op.SetFilesystem path props) body h k = absurd h
-path_is_short (op.DeleteFilesystem path) body h k = absurd h
-path_is_short (op.List dir recursive token max) body h k = absurd h
-path_is_short (op.Rename path source props) body h k = absurd h
-path_is_short (op.Read path range) body h k = absurd h
-path_is_short (op.GetProperties path status) body h k = absurd h
-path_is_short (op.GetAccess path) body h k = absurd h
-path_is_short (op.CheckAccess path want) body h k = absurd h
-path_is_short (op.Append path position flush retain action) body h k = absurd h
-path_is_short (op.Flush path position retain) body h k = absurd h
-path_is_short (op.SetProperties path props) body h k = absurd h
-path_is_short (op.SetAccess path owner group permissions acl) body h k = absurd h
-path_is_short (op.SetAccessRecursive path change token max force) body h k = absurd h
-path_is_short (op.Lease path action) body h k = absurd h
-path_is_short (op.Delete path recursive) body h k = absurd h
-path_is_short (op.Refused code) body h k = absurd h
-
-pub path_is_some : (o : Op) (body : ℕ) (path : Path) → IsOfCreate o → IsOperation o body → (making_by o).path ≡ path → path ≢ []
-path_is_some o body path h k named none = let a = (path_is_short o body h k).0 in let b : length (making_by o).path ≡ 0 = ap (λ (l : Path). length l) (named ∙ none) in omega arith
 
 -- ---- what comes of a way
 
@@ -297,190 +274,210 @@ Stops (end.NotFound depth) = depth ≤ 1
 Stops (end.NotDirectory depth) = Unit {0}
 Stops (end.Denied denied) = Unit {0}
 
-module _ (request : Request) (moment : ℕ) (caller : Caller) (path : Path) (by : request.caller ≡ Some caller) (named : (making_by request.op).path ≡ path) where
-  abbrev e : Entry
-  e = asked request moment
+pub stops_else : (e : End) → e ≢ end.Reached → ((depth : ℕ) → e ≢ end.NotFound depth) → Stops e
+stops_else end.Reached one other = absurd (one refl)
+stops_else (end.NotFound depth) one other = absurd (other depth refl)
+stops_else (end.NotDirectory depth) one other = tt
+stops_else (end.Denied denied) one other = tt
 
+-- the path of a sound call has from two to 60 names
+pub path_is_short : (call : Call) (new : NewNode) → IsCreate call new → (2 ≤ length call.path.now) × (length call.path.now ≤ 60)
+path_is_short call new is = let k = subst (λ (o : Op). IsOperation o (length call.request.now.body)) is.operation is.is_call.sound.operation in (k.0.parts, k.0.limits.depth_within)
+
+-- and so have its last names
+pub few_names : (call : Call) (new : NewNode) → IsCreate call new → (above names : Path) → call.path.now ≡ above ++ names → length names ≤ 60
+few_names call new is above names named =
+    let a = (path_is_short call new is).1 in
+    let b : length call.path.now ≡ length above + length names = ap (λ (l : Path). length l) named ∙ length_append above names in
+    omega arith
+
+pub path_is_some : (call : Call) (new : NewNode) → IsCreate call new → call.path.now ≢ []
+path_is_some call new is none = let a = (path_is_short call new is).0 in let b : length call.path.now ≡ 0 = ap (λ (l : Path). length l) none in omega arith
+
+module _ (call : Call) (new : NewNode) (is : IsCreate call new) where
   abbrev m : Making
-  m = making_by request.op
+  m = making_of call new
 
-  by_caller : caller_of e ≡ caller
-  by_caller = ap (λ c. unwrap_or c nobody) by
+  abbrev caller : Caller
+  caller = call.caller.now
 
-  abbrev after : Tree → Outcome
-  after t = hand_on t (parent m.path) (create_in t e m)
+  abbrev path : Path
+  path = call.path.now
 
-  abbrev lost_at : Tree → Path → Outcome
-  lost_at t d = hand_on t d (create_from e m d)
+  abbrev entry_of : Request → Entry
+  entry_of request = record { conn = 0; index = 0; moment = call.moment; request = request }
+
+  abbrev after : Tree → Entry → Outcome
+  after t e = hand_on t (parent path) (create_in t e m)
+
+  abbrev lost_at : Tree → Entry → Path → Outcome
+  lost_at t e d = hand_on t d (create_from e m d)
 
   -- the step by the way
-  create_on : (t : Tree) → create t e m ≡ reading (read_on t caller path) (ended (lost_at t) ResourceTypeMismatch (after t) (way_of t caller path))
-  create_on t =
+  create_on : (t : Tree) (e : Entry) → e.request ≡ call.request.now
+      → create t e m ≡ reading (read_on t caller path) (ended (lost_at t e) ResourceTypeMismatch (after t e) (way_of t caller path))
+  create_on t e asks =
       create_is t e m
-      ∙ ap (λ c. reading (read_on t c m.path) (ended (lost_at t) ResourceTypeMismatch (after t) (way_of t c m.path))) by_caller
-      ∙ ap (λ q. reading (read_on t caller q) (ended (lost_at t) ResourceTypeMismatch (after t) (way_of t caller q))) named
+      ∙ ap (λ c. reading (read_on t c path) (ended (lost_at t e) ResourceTypeMismatch (after t e) (way_of t c path))) (caller_is e call is.is_call asks)
+
+  unmet_same : (e : Entry) → e.request ≡ call.request.now → is_unmet_without e ≡ is_unmet_without (asked call)
+  unmet_same e asks = ap (λ (r : Request). is_unmet_without (entry_of r)) asks
+
+  abbrev over_by : Node → BareInode → Caller → Request → Option Reply
+  over_by dir y c r =
+      or_else (is_guarded c dir path (node_of y)) (or_else (exists_already (entry_of r)) (or_else (is_unmet (entry_of r) (node_of y))
+      (or_else (refuse_if (not (has_kind new.kind (node_of y))) ResourceTypeMismatch) (refuse_if (not (has_no_children y)) DirectoryNotEmpty))))
+
+  over_same : (e : Entry) → e.request ≡ call.request.now → (dir : Node) (y : BareInode) → over_by dir y (caller_of e) e.request ≡ refusal_over call new.kind dir y
+  over_same e asks dir y = ap (λ c. over_by dir y c e.request) (caller_is e call is.is_call asks) ∙ ap (over_by dir y caller) asks
 
   -- a stripe of the way is needed
-  pub way_needed : (held : Held) (shown : Shown) (fresh : Fresh) → IsOfCreate request.op → (s : EvalStop) → ((n : Need) → s ≡ stop.Need n → IsOnTheWay held shown caller path n)
-      → IsEvaluated held shown request moment fresh (Err s)
-  way_needed held shown fresh of_create (stop.Need n) on =
-      way_need held shown request moment fresh caller path n (on n refl) (λ parts t en possible of. (
-        ended (lost_at t) ResourceTypeMismatch (after t) (way_of t caller path),
-        step_is t en.entry request moment of_create of.asks of.comes_at ∙ create_on t,
+  pub way_needed : (held : Held) (shown : Shown) (n : Need) → IsOnTheWay held shown caller path n → Answers held shown call (Err (stop.Need n))
+  way_needed held shown n on =
+      way_need held shown call.request.now call.moment call.fresh caller path n on (λ parts t en possible of. (
+        ended (lost_at t en.entry) ResourceTypeMismatch (after t en.entry) (way_of t caller path),
+        step_is call new is t en.entry of.asks ∙ create_on t en.entry of.asks,
       ))
-  way_needed held shown fresh of_create stop.NoMemory on = tt
 
-  module _ (shown : Shown) (v : Visit) (visited : IsVisitFor shown caller path v) where
-    pub stop_comes : (s : End) (ids : List NodeId) → v.end ≡ s → ids ≡ v.ids → Stops s → Comes shown request moment ids (answered (stop_reply ResourceTypeMismatch s))
-    stop_comes s ids is same stops parts t stands agrees =
+  -- ---- the parent is reached
+
+  module _ (held : Held) (shown : Shown) (dir : Parent) (here : IsParent held shown caller path dir) where
+    abbrev none_there : Entry → Outcome
+    none_there e = create_new e m (parent path) (node_of dir.node)
+
+    abbrev looking : Tree → Entry → Option Node → Outcome
+    looking t e u = noted u path (none_there e) (create_over t e m (node_of dir.node))
+
+    module _ (r : Option Reply) (says : r ≡ lacks caller 3 (take (length (drop 1 path)) path) (node_of dir.node)) where
+      checked : (parts : Parts) (t : Tree) → Stands parts t → Agrees shown parts → (e : Entry) → e.request ≡ call.request.now
+          → create t e m ≡ reading (read_on t caller path) (unless r (looking t e (at t path)))
+      checked parts t stands agrees e asks =
+          let p = here.is_parent parts t stands agrees in
+          create_on t e asks
+          ∙ ap (λ w. reading (read_on t caller path) (ended (lost_at t e) ResourceTypeMismatch (after t e) w)) p.passes
+          ∙ ap (λ u. reading (read_on t caller path) (create_in t e m (unwrap_or u blank))) (shows_node parts t stands (parent path) dir.id.0 dir.node p.leads p.there)
+          ∙ ap (λ u. reading (read_on t caller path) (unless u (looking t e (at t path))))
+          (ap (λ c. lacks c 3 (parent path) (node_of dir.node)) (caller_is e call is.is_call asks)
+          ∙ ap (λ q. lacks caller 3 q (node_of dir.node)) (sym (front_is_parent path dir.name.now here.named)) ∙ sym says)
+
+      -- the caller may not write there
+      pub lacks_comes : (reply : Reply) → r ≡ Some reply → (parts : Parts) (t : Tree) → Stands parts t → Agrees shown parts → IsComing parts t call new dir.reads.items (λ e. answered reply)
+      lacks_comes reply refuses parts t stands agrees = record {
+        paths = read_on t caller path;
+        read = (here.is_parent parts t stands agrees).read;
+        comes = λ e asks comes_at. checked parts t stands agrees e asks ∙ ap (λ u. reading (read_on t caller path) (unless u (looking t e (at t path)))) refuses;
+      }
+
+      module _ (may : r ≡ None) where
+        abbrev next : Tree → Entry → Option Node → Outcome
+        next t e None = none_there e
+        next t e (Some y) = create_over t e m (node_of dir.node) y
+
+        -- what is read to find the node of the path is read, and then comes what is found
+        reads_node : (parts : Parts) (t : Tree) → Stands parts t → Agrees shown parts → (e : Entry) → e.request ≡ call.request.now → (u : Option Node) → at t path ≡ u
+            → create t e m ≡ reading (read_to t caller path) (next t e u)
+        reads_node parts t stands agrees e asks u found =
+            checked parts t stands agrees e asks
+            ∙ ap (λ k. reading (read_on t caller path) (unless k (looking t e (at t path)))) may
+            ∙ ap (λ k. reading (read_on t caller path) (looking t e k)) found
+            ∙ by_node u
+            ∙ sym (ap (λ w. reading (read_on t caller path ++ last_read w path (at t path)) (next t e u)) (here.is_parent parts t stands agrees).passes
+            ∙ ap (λ k. reading (read_on t caller path ++ last_read reached path k) (next t e u)) found)
+          where
+            by_node : (k : Option Node) → reading (read_on t caller path) (looking t e k) ≡ reading (read_on t caller path ++ last_read reached path k) (next t e k)
+            by_node None = ap (λ l. reading l (none_there e)) (sym (append-nil (read_on t caller path)))
+            by_node (Some y) = reading_both (read_on t caller path) (path ∷ []) (create_over t e m (node_of dir.node) y)
+
+        -- a stripe of the node of the path is needed
+        pub look_needed : (n : Need) → NeedsChild held dir.node dir.name.now n → Answers held shown call (Err (stop.Need n))
+        look_needed n needs =
+            let before = child_needs held shown caller path dir here n needs in
+            read_need held shown call.request.now call.moment call.fresh n before.within before.asks before.lacks (λ parts t en possible of. (
+              read_to t caller path,
+              outcome_reads t en (read_to t caller path) (next t en.entry (at t path))
+                  (step_is call new is t en.entry of.asks ∙ reads_node parts t possible.stands possible.agrees en.entry of.asks (at t path) refl),
+              before.needed parts t possible.stands possible.agrees,
+            ))
+
+        abbrev one : Path
+        one = dir.name.now ∷ []
+
+        abbrev comes_with : Entry → Option Reply → Option NodeId → BareInode → Path → Outcome
+        comes_with e refused old x names = unless refused (made e m (parent path) (replaced_path old path) (new_nodes e m (node_of x) (parent path) names))
+
+        below_is : (e : Entry) (gone : List Path) → made_below e m (parent path) (node_of dir.node) gone ≡ made e m (parent path) gone (new_nodes e m (node_of dir.node) (parent path) one)
+        below_is e gone =
+            ap (λ names. made e m (parent path) gone (new_nodes e m (node_of dir.node) (parent path) names)) (ap (drop (length (parent path))) here.named ∙ drop_front (parent path) one)
+
+        -- by what was found
+        found_comes : (parts : Parts) (t : Tree) → Stands parts t → Agrees shown parts → (g : Found) → IsFound t caller path g → IsPlaced parts path g → (e : Entry) → e.request ≡ call.request.now
+            → create t e m ≡ reading (read_to t caller path) (comes_with e (refusal_by call new.kind (node_of dir.node) g) (replaced_by g) dir.node one)
+        found_comes parts t stands agrees found.Nothing found placed e asks =
+            reads_node parts t stands agrees e asks None found.1
+            ∙ ap (λ u. reading (read_to t caller path) (unless u (made_below e m (parent path) (node_of dir.node) []))) (unmet_same e asks)
+            ∙ ap (λ o. reading (read_to t caller path) (unless (is_unmet_without (asked call)) o)) (below_is e [])
+        found_comes parts t stands agrees (found.Node id y) found placed e asks =
+            reads_node parts t stands agrees e asks (Some (node_of y)) found.1
+            ∙ ap (reading (read_to t caller path)) (over_is t e m (node_of dir.node) y (bare_is parts t stands path id.0 y placed.leads placed.there))
+            ∙ ap (λ u. reading (read_to t caller path) (unless u (made_below e m (parent path) (node_of dir.node) (path ∷ [])))) (over_same e asks (node_of dir.node) y)
+            ∙ ap (λ o. reading (read_to t caller path) (unless (refusal_over call new.kind (node_of dir.node) y) o)) (below_is e (path ∷ []))
+        found_comes parts t stands agrees (found.Stopped s) found placed e asks = absurd (found.0 (here.is_parent parts t stands agrees).passes)
+
+        found_leads : (parts : Parts) (t : Tree) → Stands parts t → Agrees shown parts → (g : Found) → IsFound t caller path g → IsPlaced parts path g
+            → follow parts 0 path ≡ option_map (λ (id : NodeId). id.0) (replaced_by g)
+        found_leads parts t stands agrees found.Nothing found placed = nowhere parts t stands path found.1
+        found_leads parts t stands agrees (found.Node id y) found placed = placed.leads
+        found_leads parts t stands agrees (found.Stopped s) found placed = absurd (found.0 (here.is_parent parts t stands agrees).passes)
+
+        -- the node comes to stand in the parent
+        pub look_place : (f : Find) → IsFindFor shown caller path f → AreLookedAt held shown f.ids.items → (place : Place) → place.reads.items ≡ f.ids.items
+            → place.base ≡ record { id = dir.id; node = dir.node } → place.replaced ≡ replaced_by f.found → place.names.now ≡ one
+            → IsPlace held shown call new (refusal_by call new.kind (node_of dir.node) f.found) place
+        look_place f finds looked place reads_are base_is old_is names_are = record {
+          above = parent path;
+          named = here.named ∙ ap (λ names. parent path ++ names) (sym names_are);
+          is_place = λ parts t stands agrees.
+              let find = finds parts t stands agrees in
+              let refusal = refusal_by call new.kind (node_of dir.node) f.found in
+              record {
+                coming = record {
+                  paths = read_to t caller path;
+                  read = ap (λ (l : List NodeId). numbers_of l) reads_are ∙ find.read;
+                  comes = λ e asks comes_at.
+                      found_comes parts t stands agrees f.found find.found_is find.placed e asks
+                      ∙ ap (λ old. reading (read_to t caller path) (comes_with e refusal old dir.node one)) (sym old_is)
+                      ∙ ap (λ (b : Base). reading (read_to t caller path) (comes_with e refusal place.replaced b.node one)) (sym base_is)
+                      ∙ ap (λ names. reading (read_to t caller path) (comes_with e refusal place.replaced place.base.node names)) (sym names_are);
+                };
+                leads = (here.is_parent parts t stands agrees).leads ∙ ap (λ (b : Base). Some b.id.0) (sym base_is);
+                first = subst (λ names. LeadsTo parts (parent path) names place.replaced) (sym names_are) (
+                  ap (follow parts 0) (sym here.named) ∙ found_leads parts t stands agrees f.found find.found_is find.placed ∙ ap (option_map (λ (id : NodeId). id.0)) (sym old_is),
+                  λ h. refl,
+                );
+              };
+          looked = subst (λ (l : List NodeId). AreLookedAt held shown l) (sym reads_are) looked;
+        }
+
+  -- ---- the way ends before
+
+  module _ (held : Held) (shown : Shown) (v : Visit) (visited : IsVisitFor shown caller path v) where
+    pub stop_comes : (s : End) → v.end ≡ s → Stops s → (parts : Parts) (t : Tree) → Stands parts t → Agrees shown parts
+        → IsComing parts t call new v.ids (λ e. answered (stop_reply ResourceTypeMismatch s))
+    stop_comes s same stops parts t stands agrees =
         let visit = visited parts t stands agrees in
         record {
           paths = read_on t caller path;
-          read = ap (λ (l : List NodeId). numbers_of l) same ∙ visit.read;
-          comes = create_on t ∙ ap (reading (read_on t caller path)) (by_way (way_of t caller path) s (sym is ∙ visit.ends) stops);
+          read = visit.read;
+          comes = λ e asks comes_at. create_on t e asks ∙ ap (reading (read_on t caller path)) (by_way e (way_of t caller path) s (sym same ∙ visit.ends) stops);
         }
       where
-        by_way : (w : Way) (s : End) → s ≡ end_of w → Stops s → ended (lost_at t) ResourceTypeMismatch (after t) w ≡ answered (stop_reply ResourceTypeMismatch s)
-        by_way reached s h stops = absurd (subst Stops h stops)
-        by_way (missing []) s h stops = ap (λ k. answered (stop_reply ResourceTypeMismatch k)) (sym h)
-        by_way (missing (fs ∷ names)) s h stops =
+        by_way : (e : Entry) (w : Way) (s : End) → s ≡ end_of w → Stops s → ended (lost_at t e) ResourceTypeMismatch (after t e) w ≡ answered (stop_reply ResourceTypeMismatch s)
+        by_way e reached s h stops = absurd (subst Stops h stops)
+        by_way e (missing []) s h stops = ap (λ k. answered (stop_reply ResourceTypeMismatch k)) (sym h)
+        by_way e (missing (fs ∷ names)) s h stops =
             absurd (let few : length (fs ∷ names) + 1 ≤ 1 = subst Stops h stops in let l : length (fs ∷ names) ≡ suc (length names) = refl in omega arith)
-        by_way (blocked p) s h stops = ap (λ k. answered (stop_reply ResourceTypeMismatch k)) (sym h)
-        by_way (closed p r) s h stops = ap (λ k. answered (stop_reply ResourceTypeMismatch k)) (sym h)
-
-    -- ---- the parent is reached
-
-    module _ (is_end : v.end ≡ end.Reached) where
-      way_reached : (parts : Parts) (t : Tree) → Stands parts t → Agrees shown parts → way_of t caller path ≡ reached
-      way_reached parts t stands agrees = reached_way (way_of t caller path) (sym is_end ∙ (visited parts t stands agrees).ends)
-
-      parent_id : (parts : Parts) (t : Tree) → Stands parts t → Agrees shown parts → follow parts 0 (parent path) ≡ Some v.base.0
-      parent_id parts t stands agrees = ap (λ w. follow parts 0 (base_of path w)) (sym (way_reached parts t stands agrees)) ∙ (visited parts t stands agrees).leads
-
-      in_comes : (parts : Parts) (t : Tree) → Stands parts t → Agrees shown parts → create t e m ≡ reading (read_on t caller path) (create_in t e m (node_of v.node))
-      in_comes parts t stands agrees =
-          create_on t
-          ∙ ap (λ w. reading (read_on t caller path) (ended (lost_at t) ResourceTypeMismatch (after t) w)) (way_reached parts t stands agrees)
-          ∙ ap (λ q. reading (read_on t caller path) (hand_on t (parent q) (create_in t e m))) named
-          ∙ ap (λ u. reading (read_on t caller path) (create_in t e m (unwrap_or u blank)))
-          (shows_node parts t stands (parent path) v.base.0 v.node (parent_id parts t stands agrees) (visited parts t stands agrees).there)
-
-      abbrev none_there : Outcome
-      none_there = create_new e m (parent m.path) (node_of v.node)
-
-      abbrev looking : Tree → Option Node → Outcome
-      looking t u = noted u m.path none_there (create_over t e m (node_of v.node))
-
-      module _ (front : Path) (same : front ≡ parent path) (r : Option Reply) (says : r ≡ lacks caller 3 front (node_of v.node)) where
-        lacks_is : lacks (caller_of e) 3 (parent m.path) (node_of v.node) ≡ r
-        lacks_is =
-            ap (λ c. lacks c 3 (parent m.path) (node_of v.node)) by_caller ∙ ap (λ q. lacks caller 3 (parent q) (node_of v.node)) named
-            ∙ ap (λ q. lacks caller 3 q (node_of v.node)) (sym same) ∙ sym says
-
-        checked : (parts : Parts) (t : Tree) → Stands parts t → Agrees shown parts → create t e m ≡ reading (read_on t caller path) (unless r (looking t (at t m.path)))
-        checked parts t stands agrees = in_comes parts t stands agrees ∙ ap (λ u. reading (read_on t caller path) (unless u (looking t (at t m.path)))) lacks_is
-
-        -- the caller may not write there
-        pub lacks_comes : (reply : Reply) (ids : List NodeId) → r ≡ Some reply → ids ≡ v.ids → Comes shown request moment ids (answered reply)
-        lacks_comes reply ids refuses ids_are parts t stands agrees = record {
-          paths = read_on t caller path;
-          read = ap (λ (l : List NodeId). numbers_of l) ids_are ∙ (visited parts t stands agrees).read;
-          comes = checked parts t stands agrees ∙ ap (λ u. reading (read_on t caller path) (unless u (looking t (at t m.path)))) refuses;
-        }
-
-        module _ (may : r ≡ None) where
-          abbrev next : Tree → Option Node → Outcome
-          next t None = none_there
-          next t (Some y) = create_over t e m (node_of v.node) y
-
-          -- what is read to find the node of the path is read, and then comes what is found
-          reads_node : (parts : Parts) (t : Tree) → Stands parts t → Agrees shown parts → (u : Option Node) → at t path ≡ u → create t e m ≡ reading (read_to t caller path) (next t u)
-          reads_node parts t stands agrees u is =
-              checked parts t stands agrees
-              ∙ ap (λ k. reading (read_on t caller path) (unless k (looking t (at t m.path)))) may
-              ∙ ap (λ q. reading (read_on t caller path) (looking t (at t q))) named
-              ∙ ap (λ k. reading (read_on t caller path) (looking t k)) is
-              ∙ by_node u
-              ∙ sym (ap (λ w. reading (read_on t caller path ++ last_read w path (at t path)) (next t u)) (way_reached parts t stands agrees)
-              ∙ ap (λ k. reading (read_on t caller path ++ last_read reached path k) (next t u)) is)
-            where
-              by_node : (k : Option Node) → reading (read_on t caller path) (looking t k) ≡ reading (read_on t caller path ++ last_read reached path k) (next t k)
-              by_node None = ap (λ l. reading l none_there) (sym (append-nil (read_on t caller path)))
-              by_node (Some y) =
-                  reading_both (read_on t caller path) (m.path ∷ []) (create_over t e m (node_of v.node) y)
-                  ∙ ap (λ q. reading (read_on t caller path ++ q ∷ []) (create_over t e m (node_of v.node) y)) named
-
-          module _ (held : Held) (new : Shown) (grows : Grows shown new) (looked : AreLookedAt held shown v.ids) (n : List ℕ) (last : path ≡ parent path ++ n ∷ []) where
-            -- a stripe of the node of the path is needed
-            pub look_needed : (fresh : Fresh) → IsOfCreate request.op → (s : EvalStop) → ((k : Need) → s ≡ stop.Need k → NeedsChild held v.node n k) → IsEvaluated held new request moment fresh (Err s)
-            look_needed fresh of_create (stop.Need k) needs =
-                let before = child_needs held shown new caller path n v grows visited looked is_end last k (needs k refl) in
-                read_need held new request moment fresh k before.within before.asks before.lacks (λ parts t en possible of. (
-                  read_to t caller path,
-                  outcome_reads t en (read_to t caller path) (next t (at t path))
-                      (step_is t en.entry request moment of_create of.asks of.comes_at ∙ reads_node parts t possible.stands (agrees_before shown new parts grows possible.agrees) (at t path) refl),
-                  before.needed parts t possible.stands possible.agrees,
-                ))
-            look_needed fresh of_create stop.NoMemory needs = tt
-
-            module _ (f : Find) (look : IsLook held new v.ids v.node n f) (place : Place) (ids_are : place.ids.items ≡ f.ids.items) (base_is : place.base ≡ v.base) (node_is : place.node ≡ v.node)
-                (old_is : option_map (λ (id : NodeId). id.0) place.replaced ≡ child_of v.node n) where
-              finds : IsFindFor new caller path f
-              finds = (look_finds held shown new caller path n v grows visited looked is_end last f look).0
-
-              below_is : (gone : List Path) → made_below e m (parent m.path) (node_of v.node) gone ≡ made e m (parent path) gone (new_nodes e m (node_of v.node) (parent path) (n ∷ []))
-              below_is gone =
-                  ap (λ q. made e m (parent q) gone (new_nodes e m (node_of v.node) (parent q) (drop (length (parent q)) q))) named
-                  ∙ ap (λ q. made e m (parent path) gone (new_nodes e m (node_of v.node) (parent path) q)) (ap (drop (length (parent path))) last ∙ drop_front (parent path) (n ∷ []))
-
-              -- by what was found, and by what the place replaces
-              found_comes : (parts : Parts) (t : Tree) → Stands parts t → Agrees new parts → (g : Found) (old : Option NodeId) (ids : List NodeId) → IsLookAs held new v.ids v.node n ids g
-                  → option_map (λ (id : NodeId). id.0) old ≡ child_of v.node n → IsFound t caller path g
-                  → create t e m ≡ reading (read_to t caller path) (unless (refusal_by e m (node_of v.node) g)
-                  (made e m (parent path) (replaced_path old m.path) (new_nodes e m (node_of v.node) (parent path) (n ∷ []))))
-              found_comes parts t stands agrees found.Nothing None ids l old found =
-                  reads_node parts t stands (agrees_before shown new parts grows agrees) None found.1
-                  ∙ ap (λ o. reading (read_to t caller path) (unless (is_unmet_without e) o)) (below_is [])
-              found_comes parts t stands agrees found.Nothing (Some a) ids l old found = absurd (false≢true (sym (ap is_some (old ∙ l.0))))
-              found_comes parts t stands agrees (found.Node y) None ids l old found = absurd (false≢true (ap is_some (old ∙ l.1)))
-              found_comes parts t stands agrees (found.Node y) (Some a) ids l old found =
-                  let before = agrees_before shown new parts grows agrees in
-                  let leads : follow parts 0 path ≡ Some l.0.0 =
-                  ap (follow parts 0) last ∙ child_at_name parts t stands (parent path) v.base.0 v.node (parent_id parts t stands before) (visited parts t stands before).there n (Some l.0.0) l.1 in
-                  let bare : is_bare t m.path ≡ has_no_children y = ap (is_bare t) named ∙ bare_is parts t stands path l.0.0 y leads (agreed new parts l.0.0 y agrees l.2) in
-                  reads_node parts t stands before (Some (node_of y)) found.1
-                  ∙ ap (reading (read_to t caller path)) (over_is t e m (node_of v.node) y bare)
-                  ∙ ap (λ o. reading (read_to t caller path) (unless (refusal_over e m (node_of v.node) y) o)) (below_is (m.path ∷ []))
-              found_comes parts t stands agrees (found.Stopped s) old ids l is found = absurd l
-
-              -- the node comes to stand in the parent
-              pub look_place : IsPlace new request moment (n ∷ []) (refusal_by e m (node_of v.node) f.found) place
-              look_place = record {
-                above = parent path;
-                named = named ∙ last;
-                comes = λ parts t stands agrees.
-                    let find = finds parts t stands agrees in
-                    record {
-                      paths = read_to t caller path;
-                      read = ap (λ (l : List NodeId). numbers_of l) ids_are ∙ find.read;
-                      comes = found_comes parts t stands agrees f.found place.replaced f.ids.items look old_is find.found_is
-                          ∙ ap (λ (y : BareInode). reading (read_to t caller path) (unless (refusal_by e m (node_of v.node) f.found)
-                          (made e m (parent path) (replaced_path place.replaced m.path) (new_nodes e m (node_of y) (parent path) (n ∷ []))))) (sym node_is);
-                    };
-                is_above = λ parts t stands agrees.
-                    let before = agrees_before shown new parts grows agrees in
-                    let leads = parent_id parts t stands before in
-                    record {
-                      leads = leads ∙ ap (λ (i : NodeId). Some i.0) (sym base_is);
-                      first = (
-                        child_at_name parts t stands (parent path) v.base.0 v.node leads (visited parts t stands before).there n (option_map (λ (id : NodeId). id.0) place.replaced) (sym old_is),
-                        λ h. refl,
-                      );
-                    };
-              }
-
-              pub look_read : AreLookedAt held new place.ids.items
-              look_read = subst (λ (l : List NodeId). AreLookedAt held new l) (sym ids_are) (look_finds held shown new caller path n v grows visited looked is_end last f look).1
+        by_way e (blocked p) s h stops = ap (λ k. answered (stop_reply ResourceTypeMismatch k)) (sym h)
+        by_way e (closed p r) s h stops = ap (λ k. answered (stop_reply ResourceTypeMismatch k)) (sym h)
 
     -- ---- a directory is missing on the way
 
@@ -516,7 +513,10 @@ module _ (request : Request) (moment : ℕ) (caller : Caller) (path : Path) (by 
         | inr k ↦ absurd (∥∥₁_elim some ⊥_prop (λ a. let u = within_path a.tree (lost a.parts a.tree a.stands a.agrees) in let w = k.1 in omega arith))
       ]
 
-      front_is : (t : Tree) → (l : Lost t) → l.0 ≡ take (depth - 1) path
+      abbrev front : Path
+      front = take (depth - 1) path
+
+      front_is : (t : Tree) → (l : Lost t) → l.0 ≡ front
       front_is t l =
           let h = missing_there t l in
           let k : depth - 1 ≡ length l.0 = let e = l.2 in omega arith in
@@ -528,57 +528,58 @@ module _ (request : Request) (moment : ℕ) (caller : Caller) (path : Path) (by 
           let k : depth - 1 ≡ length l.0 = let e = l.2 in omega arith in
           ap (λ j. drop j path) k ∙ ap (drop (length l.0)) h.2 ∙ drop_front l.0 (h.0 ∷ h.1)
 
-      from_is : (t : Tree) (d : Path) (x : Node) → 1 ≤ length d → at t d ≡ Some x → lost_at t d ≡ create_under e m d x
-      from_is t [] x some there = absurd (let k : 1 ≤ 0 = some in omega arith)
-      from_is t (fs ∷ names) x some there = ap (λ u. create_under e m (fs ∷ names) (unwrap_or u blank)) there
+      from_is : (t : Tree) (e : Entry) (d : Path) (x : Node) → 1 ≤ length d → at t d ≡ Some x → lost_at t e d ≡ create_under e m d x
+      from_is t e [] x some there = absurd (let k : 1 ≤ 0 = some in omega arith)
+      from_is t e (fs ∷ names) x some there = ap (λ u. create_under e m (fs ∷ names) (unwrap_or u blank)) there
 
-      module _ (front names : Path) (r : Option Reply) (place : Place) (front_same : front ≡ take (depth - 1) path) (names_same : names ≡ drop (depth - 1) path)
-          (says : r ≡ or_else (lacks caller 3 front (node_of v.node)) (is_unmet_without e)) (ids_are : place.ids.items ≡ v.ids) (base_is : place.base ≡ v.base) (node_is : place.node ≡ v.node)
-          (no_old : place.replaced ≡ None) where
-        under_is : (parts : Parts) (t : Tree) → Stands parts t → Agrees shown parts → (l : Lost t) → front ≡ l.0
-            → create t e m ≡ reading (read_on t caller path) (unless r (made e m front [] (new_nodes e m (node_of v.node) front names)))
-        under_is parts t stands agrees l is =
+      module _ (r : Option Reply) (says : r ≡ or_else (lacks caller 3 front (node_of v.base.node)) (is_unmet_without (asked call))) where
+        leads_front : (parts : Parts) (t : Tree) → Stands parts t → Agrees shown parts → follow parts 0 front ≡ Some v.base.id.0
+        leads_front parts t stands agrees =
+            let l = lost parts t stands agrees in
+            ap (follow parts 0) (sym (front_is t l)) ∙ ap (λ w. follow parts 0 (base_of path w)) (sym l.1) ∙ (visited parts t stands agrees).leads
+
+        under_is : (parts : Parts) (t : Tree) → Stands parts t → Agrees shown parts → (e : Entry) → e.request ≡ call.request.now
+            → create t e m ≡ reading (read_on t caller path) (unless r (made e m front [] (new_nodes e m (node_of v.base.node) front (drop (depth - 1) path))))
+        under_is parts t stands agrees e asks =
+            let l = lost parts t stands agrees in
             let visit = visited parts t stands agrees in
-            let leads : follow parts 0 front ≡ Some v.base.0 = ap (follow parts 0) is ∙ ap (λ w. follow parts 0 (base_of path w)) (sym l.1) ∙ visit.leads in
-            let long : 1 ≤ length front = let a : length front ≡ length l.0 = ap (λ (q : Path). length q) is in let b = l.2 in let c = deep in omega arith in
-            create_on t
-            ∙ ap (λ w. reading (read_on t caller path) (ended (lost_at t) ResourceTypeMismatch (after t) w)) l.1
-            ∙ ap (λ d. reading (read_on t caller path) (lost_at t d)) (sym is)
-            ∙ ap (reading (read_on t caller path)) (from_is t front (node_of v.node) long (shows_node parts t stands front v.base.0 v.node leads visit.there)
-            ∙ ap (λ c. unless (lacks c 3 front (node_of v.node)) (unless (is_unmet_without e) (made_below e m front (node_of v.node) []))) by_caller
-            ∙ unless_both (lacks caller 3 front (node_of v.node)) (is_unmet_without e) (made_below e m front (node_of v.node) [])
-            ∙ ap (λ u. unless u (made_below e m front (node_of v.node) [])) (sym says)
-            ∙ ap (λ ns. unless r (made e m front [] (new_nodes e m (node_of v.node) front ns))) behind)
-          where
-            behind : drop (length front) m.path ≡ names
-            behind =
-                ap (drop (length front)) named
-                ∙ ap (λ k. drop k path) (let a : length front ≡ length l.0 = ap (λ (q : Path). length q) is in let b = l.2 in let h : length front ≡ depth - 1 = omega arith in h)
-                ∙ sym names_same
+            let size : length l.0 ≡ length front = ap (λ (q : Path). length q) (front_is t l) in
+            let long : 1 ≤ length front = let b = l.2 in let c = deep in omega arith in
+            let behind : length front ≡ depth - 1 = let b = l.2 in omega arith in
+            create_on t e asks
+            ∙ ap (λ w. reading (read_on t caller path) (ended (lost_at t e) ResourceTypeMismatch (after t e) w)) l.1
+            ∙ ap (λ d. reading (read_on t caller path) (lost_at t e d)) (front_is t l)
+            ∙ ap (reading (read_on t caller path)) (from_is t e front (node_of v.base.node) long (shows_node parts t stands front v.base.id.0 v.base.node (leads_front parts t stands agrees) visit.there)
+            ∙ ap (λ c. unless (lacks c 3 front (node_of v.base.node)) (unless (is_unmet_without e) (made_below e m front (node_of v.base.node) []))) (caller_is e call is.is_call asks)
+            ∙ ap (λ u. unless (lacks caller 3 front (node_of v.base.node)) (unless u (made_below e m front (node_of v.base.node) []))) (unmet_same e asks)
+            ∙ unless_both (lacks caller 3 front (node_of v.base.node)) (is_unmet_without (asked call)) (made_below e m front (node_of v.base.node) [])
+            ∙ ap (λ u. unless u (made_below e m front (node_of v.base.node) [])) (sym says)
+            ∙ ap (λ j. unless r (made e m front [] (new_nodes e m (node_of v.base.node) front (drop j path)))) behind)
 
         -- the nodes come to stand below the last directory that is there
-        pub under_place : IsPlace shown request moment names r place
-        under_place = record {
+        pub under_place : AreLookedAt held shown v.ids → (place : Place) → place.reads.items ≡ v.ids → place.base ≡ v.base → place.replaced ≡ None → place.names.now ≡ drop (depth - 1) path
+            → IsPlace held shown call new r place
+        under_place looked place reads_are base_is no_old names_same = record {
           above = front;
-          named = named ∙ take_drop (depth - 1) path ∙ ap (λ q. q ++ drop (depth - 1) path) (sym front_same) ∙ ap (λ q. front ++ q) (sym names_same);
-          comes = λ parts t stands agrees.
-              let l = lost parts t stands agrees in
-              record {
-                paths = read_on t caller path;
-                read = ap (λ (k : List NodeId). numbers_of k) ids_are ∙ (visited parts t stands agrees).read;
-                comes = under_is parts t stands agrees l (front_same ∙ sym (front_is t l))
-                    ∙ ap (λ (y : BareInode). reading (read_on t caller path) (unless r (made e m front [] (new_nodes e m (node_of y) front names)))) (sym node_is)
-                    ∙ ap (λ o. reading (read_on t caller path) (unless r (made e m front (replaced_path o m.path) (new_nodes e m (node_of place.node) front names)))) (sym no_old);
-              };
-          is_above = λ parts t stands agrees.
+          named = take_drop (depth - 1) path ∙ ap (λ names. front ++ names) (sym names_same);
+          is_place = λ parts t stands agrees.
               let l = lost parts t stands agrees in
               let h = missing_there t l in
-              let is : front ≡ l.0 = front_same ∙ sym (front_is t l) in
               record {
-                leads = ap (follow parts 0) is ∙ ap (λ w. follow parts 0 (base_of path w)) (sym l.1) ∙ (visited parts t stands agrees).leads ∙ ap (λ (i : NodeId). Some i.0) (sym base_is);
-                first = subst (λ ns. LeadsTo parts front ns place.replaced) (sym (names_same ∙ names_are t l)) (
-                  ap (λ q. follow parts 0 (q ++ h.0 ∷ [])) is ∙ nowhere parts t stands (l.0 ++ h.0 ∷ []) h.3 ∙ sym (ap (option_map (λ (id : NodeId). id.0)) no_old),
+                coming = record {
+                  paths = read_on t caller path;
+                  read = ap (λ (k : List NodeId). numbers_of k) reads_are ∙ (visited parts t stands agrees).read;
+                  comes = λ e asks comes_at.
+                      under_is parts t stands agrees e asks
+                      ∙ ap (λ names. reading (read_on t caller path) (unless r (made e m front [] (new_nodes e m (node_of v.base.node) front names)))) (sym names_same)
+                      ∙ ap (λ (b : Base). reading (read_on t caller path) (unless r (made e m front [] (new_nodes e m (node_of b.node) front place.names.now)))) (sym base_is)
+                      ∙ ap (λ o. reading (read_on t caller path) (unless r (made e m front (replaced_path o path) (new_nodes e m (node_of place.base.node) front place.names.now)))) (sym no_old);
+                };
+                leads = leads_front parts t stands agrees ∙ ap (λ (b : Base). Some b.id.0) (sym base_is);
+                first = subst (λ names. LeadsTo parts front names place.replaced) (sym (names_same ∙ names_are t l)) (
+                  ap (λ q. follow parts 0 (q ++ h.0 ∷ [])) (sym (front_is t l)) ∙ nowhere parts t stands (l.0 ++ h.0 ∷ []) h.3 ∙ sym (ap (option_map (λ (id : NodeId). id.0)) no_old),
                   λ k. absurd (false≢true (sym (ap is_some no_old) ∙ k)),
                 );
               };
+          looked = subst (λ (l : List NodeId). AreLookedAt held shown l) (sym reads_are) looked;
         }

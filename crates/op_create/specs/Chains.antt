@@ -1,13 +1,12 @@
 -- The draft by which new nodes come to stand, each below the one before it.
-use Rattle.std.specs.Prelude.{◌≡◌, ℕ, Bool, true, false, List, [], ◌∷◌, ◌++◌, length, Option, Some, None, if◌then◌else◌}
+use Rattle.std.specs.Prelude.{◌≡◌, ℕ, Bool, true, false, List, [], ◌∷◌, ◌++◌, length, Option, Some, None, unwrap_or, if◌then◌else◌}
 use Rattle.acl_text.specs.declared.acl.AclPair.{AclPair}
 use Rattle.acl_text.specs.declared.perm.ModeBits.{ModeBits}
 use Rattle.file_data.specs.FileRecord.{file_of}
 use Rattle.namespace_model.specs.declared.op.Kind.{Kind}
-use Rattle.namespace_model.specs.declared.request.Entry.{Entry}
-use Rattle.namespace_model.specs.declared.request.Request.{Request}
+use Rattle.namespace_model.specs.declared.op.Kind.TheVariants.{Directory}
 use Rattle.namespace_model.specs.Access.{acl_inherit}
-use Rattle.namespace_model.specs.Create.{Making, empty_of, new_directory, new_node}
+use Rattle.namespace_model.specs.Create.{Making, empty_of}
 use Rattle.namespace_model.specs.Nodes as model
 use Rattle.namespace_model.specs.Nodes.{Node, blank}
 use Rattle.namespace_model.specs.Replies.{success, stamp_fields}
@@ -22,8 +21,10 @@ use Rattle.inode_tree.specs.declared.inode.Content.TheVariants as content
 use Rattle.inode_tree.specs.declared.inode.Inode.{Inode}
 use Rattle.inode_tree.specs.After.{meta_of}
 use Rattle.inode_tree.specs.ChildLists.{no_children}
+use Rattle.path_walk.specs.declared.call.Call.{Call}
+use Rattle.op_create.specs.declared.nodes.NewNode.{NewNode}
 use Rattle.op_create.specs.declared.place.Place.{Place}
-use Rattle.op_create.specs.Creates.{making_of, asked}
+use Rattle.op_create.specs.Creates.{making_of}
 
 -- ---- new nodes
 
@@ -47,21 +48,29 @@ own_content (model.file bytes staged) = content.File (file_of bytes staged)
 abbrev pub new_inode : ℕ → Node → Inode
 new_inode moment x = record { meta = meta_of (record x { moment = moment }); content = own_content x.content }
 
+-- who makes new nodes, and when
+pub record Maker : Type 0 where
+  pub owner : List ℕ
+  pub moment : ℕ
+
+abbrev pub maker_of : Call → Maker
+maker_of call = record { owner = call.caller.now.id; moment = call.moment }
+
 -- what is below a directory with this group and these lists: the node that is asked for, or a directory that is missing on the way to it
-abbrev pub next_node : Entry → Making → List ℕ → AclPair → Bool → Node
-next_node e m group acl last =
-    if last then new_node e m (record blank { group = group; acl = acl }) else new_directory e m (record blank { group = group; acl = acl })
+abbrev pub next_node : Maker → Making → List ℕ → AclPair → Bool → Node
+next_node maker m group acl last =
+    if last then made_with maker.owner group acl m.kind m.permissions m.umask (unwrap_or m.props []) else made_with maker.owner group acl Directory None m.umask []
 
 -- ---- changes
 
 -- A directory leads to a new node by the first name, and that one to the next; each comes to stand under its id.
-abbrev pub chained : Entry → Making → List ℕ → AclPair → NodeId → Path → List NodeId → List Change
-chained e m group acl above [] ids = []
-chained e m group acl above (n ∷ names) [] = []
-chained e m group acl above (n ∷ []) (id ∷ ids) = change.Link above n id ∷ change.Put id (new_inode e.moment (next_node e m group acl true)) ∷ []
-chained e m group acl above (n ∷ o ∷ names) (id ∷ ids) =
-    change.Link above n id ∷ change.Put id (new_inode e.moment (next_node e m group acl false))
-    ∷ chained e m group (next_node e m group acl false).acl id (o ∷ names) ids
+abbrev pub chained : Maker → Making → List ℕ → AclPair → NodeId → Path → List NodeId → List Change
+chained maker m group acl above [] ids = []
+chained maker m group acl above (n ∷ names) [] = []
+chained maker m group acl above (n ∷ []) (id ∷ ids) = change.Link above n id ∷ change.Put id (new_inode maker.moment (next_node maker m group acl true)) ∷ []
+chained maker m group acl above (n ∷ o ∷ names) (id ∷ ids) =
+    change.Link above n id ∷ change.Put id (new_inode maker.moment (next_node maker m group acl false))
+    ∷ chained maker m group (next_node maker m group acl false).acl id (o ∷ names) ids
 
 -- what stood at the path goes
 abbrev pub dropped : Option NodeId → List Change
@@ -75,11 +84,11 @@ abbrev pub to_write : NodeId → Option NodeId → List NodeId → List NodeId
 to_write base None new = base ∷ new
 to_write base (Some old) new = base ∷ old ∷ new
 
--- a draft by which new nodes of these names get these ids
-pub record IsMade (request : Request) (moment : ℕ) (names : Path) (place : Place) (new writes : List NodeId) (d : Draft) : Type 0 where
-  pub replies : d.reply ≡ closing request.close (success 201 (stamp_fields moment))
-  pub reads_are : d.reads.items ≡ place.ids.items
+-- a draft by which the nodes of the place get these ids
+pub record IsMade (call : Call) (new : NewNode) (place : Place) (ids writes : List NodeId) (d : Draft) : Type 0 where
+  pub replies : d.reply ≡ closing call.request.now.close (success 201 (stamp_fields call.moment))
+  pub reads_are : d.reads.items ≡ place.reads.items
   pub writes_are : d.writes.items ≡ writes
   pub changes_are : d.changes.items
-      ≡ dropped place.replaced ++ chained (asked request moment) (making_of request.op) place.node.meta.group place.node.meta.acl place.base names new
-  pub draws : d.drawn ≡ length new
+      ≡ dropped place.replaced ++ chained (maker_of call) (making_of call new) place.base.node.meta.group place.base.node.meta.acl place.base.id place.names.now ids
+  pub draws : d.drawn ≡ length ids

@@ -1,17 +1,13 @@
 //! The draft by which new nodes come to stand.
-ghost use Rattle.std.specs.Prelude.{◌≡◌, ◌≤◌, ◌<◌, ◌^◌, ◌++◌, length, IfOk, Some};
+ghost use Rattle.std.specs.Prelude.{◌≡◌, ◌≤◌, ◌<◌, ◌^◌, ◌++◌, length, IfOk};
 ghost use Rattle.inode_tree.specs.Drawing.{next_ids};
-ghost use Rattle.namespace_model.specs.Replies.{success, stamp_fields};
-ghost use Rattle.op_create.specs.Creates.{IsOfCreate, asked, making_of};
-ghost use Rattle.op_create.specs.Chains.{chained, dropped, to_write, IsMade};
+ghost use Rattle.op_create.specs.Creates.{making_of};
+ghost use Rattle.op_create.specs.Chains.{maker_of, chained, dropped, to_write, IsMade};
 
-use super::nodes::next_inode;
+use super::nodes::{NewNode, next_inode};
 use super::place::Place;
-use file_data::Piece;
 use inode_tree::{Change, Draft, Fresh, NodeId};
-use namespace_model::{Caller, Field, FieldList, Reply, Request};
-use path_text::Name;
-use path_walk::closing;
+use path_walk::{Call, closing, stamped};
 use std::alloc::{AllocError, Global};
 
 // So many of the ids that are still to be given.
@@ -31,35 +27,18 @@ pub(crate) fn drawn(alloc: Global, fresh: &Fresh, many: usize) -> Result<Vec<Nod
 // The nodes that are to be written.
 pub(crate) fn written(
     alloc: Global,
-    base: NodeId,
-    replaced: Option<NodeId>,
-    new: &[NodeId],
+    place: &Place<'_>,
+    ids: &[NodeId],
 ) -> Result<Vec<NodeId>, AllocError>
-    ensures { IfOk result (λ ids. ids.items ≡ to_write base replaced new.now) }
+    ensures { IfOk result (λ writes. writes.items ≡ to_write place.now.base.id place.now.replaced ids.now) }
 {
-    let mut ids = Vec::new(alloc);
-    ids.push(base)?;
-    if let Some(old) = replaced {
-        ids.push(old)?;
+    let mut writes = Vec::new(alloc);
+    writes.push(place.base.id)?;
+    if let Some(old) = place.replaced {
+        writes.push(old)?;
     }
-    ids.extend_from_slice(new)?;
-    Ok(ids)
-}
-
-// 201, with the ETag of the very entry that is answered, and its moment.
-fn made_reply(alloc: Global, moment: u64) -> Result<Reply, AllocError>
-    ensures { IfOk result (λ reply. reply ≡ success 201 (stamp_fields moment)) }
-{
-    let mut fields = Vec::new(alloc);
-    fields.push(Field::ETag(None))?;
-    fields.push(Field::LastModified(moment))?;
-    Ok(Reply {
-        status: 201,
-        code: None,
-        fields: FieldList::new(fields),
-        body: Piece::new(Vec::new(alloc)),
-        denied: None,
-    })
+    writes.extend_from_slice(ids)?;
+    Ok(writes)
 }
 
 // What stood at the path goes.
@@ -73,67 +52,53 @@ fn dropped(alloc: Global, replaced: Option<NodeId>) -> Result<Vec<Change>, Alloc
     Ok(changes)
 }
 
-// The nodes of these names come to stand under these ids, each below the one before it.
+// The nodes of the place come to stand under these ids, each below the one before it.
 fn changes(
     alloc: Global,
-    request: &Request,
-    caller: &Caller,
-    moment: u64,
-    names: &[Name],
-    place: &Place,
-    new: &[NodeId],
+    call: &Call<'_>,
+    new: &NewNode<'_>,
+    place: &Place<'_>,
+    ids: &[NodeId],
 ) -> Result<Vec<Change>, AllocError>
-    requires operation { IsOfCreate request.now.op }
-    requires caller { request.now.caller ≡ Some caller.now }
-    requires many { length new.now ≡ length names.now }
+    requires many { length ids.now ≡ length place.now.names.now }
     ensures { IfOk result (λ changes. changes.items
-        ≡ dropped place.now.replaced ++ chained (asked request.now moment) (making_of request.now.op) place.now.node.meta.group place.now.node.meta.acl place.now.base names.now new.now) }
+        ≡ dropped place.now.replaced ++ chained (maker_of call.now) (making_of call.now new.now) place.now.base.node.meta.group place.now.base.node.meta.acl place.now.base.id place.now.names.now ids.now) }
 {
-    let meta = &place.node.inode().meta;
+    let meta = &place.base.node.inode().meta;
+    let names = place.names;
     let mut changes = dropped(alloc, place.replaced)?;
     let mut acl = meta.acl.copy(alloc)?;
-    let mut above = place.base;
+    let mut above = place.base.id;
     for i in 0..names.len() {
         let last = i + 1 == names.len();
-        let inode = next_inode(alloc, request, caller, moment, &meta.group, &acl, last)?;
+        let inode = next_inode(alloc, call, new, &meta.group, &acl, last)?;
         acl = inode.meta.acl.copy(alloc)?;
-        changes.push(Change::Link(above, names[i].copy(alloc)?, new[i]))?;
-        changes.push(Change::Put(new[i], inode))?;
-        above = new[i];
+        changes.push(Change::Link(above, names[i].copy(alloc)?, ids[i]))?;
+        changes.push(Change::Put(ids[i], inode))?;
+        above = ids[i];
     }
     Ok(changes)
 }
 
-// The nodes of these names come to stand below a directory.
+// The nodes of the place come to stand.
 pub(crate) fn made(
     alloc: Global,
-    request: &Request,
-    caller: &Caller,
-    moment: u64,
-    names: &[Name],
-    place: Place,
-    new: Vec<NodeId>,
+    call: &Call<'_>,
+    new: &NewNode<'_>,
+    place: Place<'_>,
+    ids: Vec<NodeId>,
     writes: Vec<NodeId>,
 ) -> Result<Draft, AllocError>
-    requires operation { IsOfCreate request.now.op }
-    requires caller { request.now.caller ≡ Some caller.now }
-    requires many { length new.items ≡ length names.now }
-    requires few { length names.now ≤ 60 }
-    ensures { IfOk result (λ draft. IsMade request.now moment names.now place new.items writes.items draft) }
+    requires many { length ids.items ≡ length place.names.now }
+    requires few { length place.names.now ≤ 60 }
+    ensures { IfOk result (λ draft. IsMade call.now new.now place.entry ids.items writes.items draft) }
 {
-    let drawn = new.len() as u32;
-    let changes = changes(
-        alloc,
-        request,
-        caller,
-        moment,
-        names,
-        &place,
-        new.as_slice(),
-    )?;
+    let drawn = ids.len() as u32;
+    let changes = changes(alloc, call, new, &place, ids.as_slice())?;
+    let reply = stamped(alloc, 201, call.moment)?;
     Ok(Draft {
-        reply: closing(alloc, made_reply(alloc, moment)?, request.close)?,
-        reads: place.ids,
+        reply: closing(alloc, reply, call.request.close)?,
+        reads: place.reads,
         writes,
         changes,
         drawn,

@@ -1,23 +1,29 @@
-ghost use Rattle.std.specs.Prelude.{◌≡◌, ◌≢◌, ◌≤◌, ◌<◌, ◌+◌, ◌^◌, ◌∷◌, [], length, Some, None, IfOk};
+ghost use Rattle.std.specs.Prelude.{◌≡◌, ◌≤◌, ◌<◌, ◌-◌, ◌^◌, length, drop, None, IfOk};
 ghost use Rattle.inode_tree.specs.Promises.{IsEvaluated};
-ghost use Rattle.inode_tree.specs.Views.{Grows};
-ghost use Rattle.namespace_model.specs.Sound.{IsSound};
-ghost use Rattle.op_create.specs.Creates.{IsOfCreate, making_of, IsPlace};
+ghost use Rattle.lease_state.specs.declared.lease.TheConstants.{LAST_MOMENT};
 ghost use Rattle.namespace_model.specs.declared.code.Code.TheVariants.{ResourceTypeMismatch};
-ghost use Rattle.path_walk.specs.Answers.{IsAnswered, stop_reply};
-ghost use Rattle.path_walk.specs.Visits.{IsVisitFor, AreLookedAt};
+ghost use Rattle.namespace_model.specs.Sound.{IsSound};
+ghost use Rattle.op_create.specs.Creates.{IsOfCreate, IsCreate, IsPlace, replaced_by};
 ghost use Rattle.path_walk.specs.declared.stop.End.TheVariants as end;
+ghost use Rattle.path_walk.specs.Answers.{IsAnswered, stop_reply};
+ghost use Rattle.path_walk.specs.Calls.{Answers, GoesOn};
+ghost use Rattle.path_walk.specs.Parents.{IsParent};
+ghost use Rattle.path_walk.specs.Visits.{IsVisitFor, AreLookedAt};
 
 use super::drafts::{drawn, made, written};
+use super::nodes::NewNode;
 use super::place::Place;
-use super::refusals::{lacks, refused, refused_below};
-use inode_tree::{Draft, EvalStop, Fresh, NodeId, NodeIds, NodeRef, View};
-use namespace_model::{Caller, Code, Op, Reply, Request};
+use super::refusals::{refused, refused_below};
+use acl_text::Perm;
+use inode_tree::{Draft, EvalStop, Fresh, NodeId, NodeIds, View};
+use namespace_model::{Code, Op, Reply, Request};
 use path_text::{Name, Path};
 use path_walk::{
-    End, Find, Visit, answered, child_of, look_below, part_names, stop_reply, unheld, visit,
+    Base, Call, End, Find, Found, Parent, Visit, answered, lacks_above, look_below, parent_at,
+    stop_reply, unheld, visit,
 };
 use std::alloc::{AllocError, Global};
+use std::slice::from_ref;
 
 /// Works out what a request to make a file or a directory replies and changes at this moment, in milliseconds since 1970 (Path - Create
 /// of the REST reference). The directories that are missing on the way are made too. The nodes of the way and the node of the path are
@@ -25,7 +31,7 @@ use std::alloc::{AllocError, Global};
 /// of a node that is replaced and of the ids that are drawn have to be held exclusively. Where one isn't held so, the answer is `Need`;
 /// want of memory may come at any time.
 ///
-/// The request is a sound one to make a file or a directory. An id is drawn for each node that is made.
+/// The request is a sound one to make a file or a directory, and the moment has a date. An id is drawn for each node that is made.
 pub fn eval_create<V: View>(
     alloc: Global,
     view: &mut V,
@@ -35,16 +41,37 @@ pub fn eval_create<V: View>(
 ) -> Result<Draft, EvalStop>
     requires operation { IsOfCreate request.now.op }
     requires sound { IsSound request.now }
+    requires moment { moment ≤ LAST_MOMENT }
     requires pass { fresh.now.pass < 64 }
     requires used { fresh.now.used < 2 ^ 40 }
-    ensures held { V.held view.new ≡ V.held view.old }
-    ensures over { V.over view.new ≡ V.over view.old }
-    ensures grows { Grows (V.shown view.old) (V.shown view.new) }
+    ensures on { GoesOn (V.held view.old) (V.held view.new) (V.over view.old) (V.over view.new) (V.shown view.old) (V.shown view.new) }
     ensures evaluated { IsEvaluated (V.held view.old) (V.shown view.new) request.now moment fresh.now result }
 {
     match (&request.op, &request.caller) {
-        (Op::Create { path, .. }, Some(caller)) => {
-            create(alloc, view, request, caller, path, moment, fresh)
+        (
+            Op::Create {
+                path,
+                kind,
+                permissions,
+                umask,
+                props,
+            },
+            Some(caller),
+        ) => {
+            let call = Call {
+                request,
+                caller,
+                path,
+                moment,
+                fresh: *fresh,
+            };
+            let new = NewNode {
+                kind: *kind,
+                permissions: *permissions,
+                umask: *umask,
+                props,
+            };
+            create(alloc, view, &call, &new)
         }
         _ => unreachable!(),
     }
@@ -54,25 +81,15 @@ pub fn eval_create<V: View>(
 fn create<V: View>(
     alloc: Global,
     view: &mut V,
-    request: &Request,
-    caller: &Caller,
-    path: &Path,
-    moment: u64,
-    fresh: &Fresh,
+    call: &Call<'_>,
+    new: &NewNode<'_>,
 ) -> Result<Draft, EvalStop>
-    requires operation { IsOfCreate request.now.op }
-    requires path { (making_of request.now.op).path ≡ path.now }
-    requires caller { request.now.caller ≡ Some caller.now }
-    requires sound { IsSound request.now }
-    requires pass { fresh.now.pass < 64 }
-    requires used { fresh.now.used < 2 ^ 40 }
-    ensures held { V.held view.new ≡ V.held view.old }
-    ensures over { V.over view.new ≡ V.over view.old }
-    ensures grows { Grows (V.shown view.old) (V.shown view.new) }
-    ensures evaluated { IsEvaluated (V.held view.old) (V.shown view.new) request.now moment fresh.now result }
+    requires create { IsCreate call.now new.now }
+    ensures on { GoesOn (V.held view.old) (V.held view.new) (V.over view.old) (V.over view.new) (V.shown view.old) (V.shown view.new) }
+    ensures evaluated { Answers (V.held view.new) (V.shown view.new) call.now result }
 {
-    match visit(alloc, view, path, caller) {
-        Ok(visited) => { create_behind(alloc, view, request, caller, path, moment, fresh, visited) }
+    match visit(alloc, view, call.path, call.caller) {
+        Ok(visited) => create_behind(alloc, view, call, new, visited),
         Err(stop) => Err(stop),
     }
 }
@@ -81,111 +98,34 @@ fn create<V: View>(
 fn create_behind<V: View>(
     alloc: Global,
     view: &mut V,
-    request: &Request,
-    caller: &Caller,
-    path: &Path,
-    moment: u64,
-    fresh: &Fresh,
+    call: &Call<'_>,
+    new: &NewNode<'_>,
     visit: Visit,
 ) -> Result<Draft, EvalStop>
-    requires operation { IsOfCreate request.now.op }
-    requires path { (making_of request.now.op).path ≡ path.now }
-    requires caller { request.now.caller ≡ Some caller.now }
-    requires sound { IsSound request.now }
-    requires pass { fresh.now.pass < 64 }
-    requires used { fresh.now.used < 2 ^ 40 }
-    requires visited { IsVisitFor (V.shown view.old) caller.now path.now visit }
+    requires create { IsCreate call.now new.now }
+    requires visited { IsVisitFor (V.shown view.old) call.now.caller.now call.now.path.now visit }
     requires looked { AreLookedAt (V.held view.old) (V.shown view.old) visit.ids }
-    ensures held { V.held view.new ≡ V.held view.old }
-    ensures over { V.over view.new ≡ V.over view.old }
-    ensures grows { Grows (V.shown view.old) (V.shown view.new) }
-    ensures evaluated { IsEvaluated (V.held view.old) (V.shown view.new) request.now moment fresh.now result }
+    ensures on { GoesOn (V.held view.old) (V.held view.new) (V.over view.old) (V.over view.new) (V.shown view.old) (V.shown view.new) }
+    ensures evaluated { Answers (V.held view.new) (V.shown view.new) call.now result }
 {
-    let Visit {
-        ids,
-        base,
-        node,
-        end,
-    } = visit;
+    let Visit { ids, base, end } = visit;
     match end {
         End::Reached => {
-            create_in(
-                alloc, view, request, caller, path, moment, fresh, ids, base, node,
-            )
+            let at = parent_at(ids.into_items(), base, call.path);
+            create_in(alloc, view, call, new, at)
         }
         End::NotFound(depth) => {
             if 1 < depth {
-                view.stands();
-                return create_under(
-                    alloc, view, request, caller, path, moment, fresh, ids, base, node, depth,
-                );
+                let visit = Visit {
+                    ids,
+                    base,
+                    end: End::NotFound(depth),
+                };
+                return create_under(alloc, view, call, new, visit, depth);
             }
-            Ok(stopped(alloc, request, ids, End::NotFound(depth))?)
+            Ok(stopped(alloc, call, ids, End::NotFound(depth))?)
         }
-        End::NotDirectory(depth) => Ok(stopped(alloc, request, ids, End::NotDirectory(depth))?),
-        End::Denied(denied) => Ok(stopped(alloc, request, ids, End::Denied(denied))?),
-    }
-}
-
-// The way ends before, and nothing is to be made.
-fn stopped(alloc: Global, request: &Request, ids: NodeIds, end: End) -> Result<Draft, AllocError>
-    ensures { IfOk result (λ draft. IsAnswered request.now.close (stop_reply ResourceTypeMismatch end) ids draft) }
-{
-    let reply = stop_reply(alloc, Code::ResourceTypeMismatch, end);
-    answered(alloc, ids.into_items(), reply, request.close)
-}
-
-// The parent was reached.
-fn create_in<V: View>(
-    alloc: Global,
-    view: &mut V,
-    request: &Request,
-    caller: &Caller,
-    path: &Path,
-    moment: u64,
-    fresh: &Fresh,
-    ids: NodeIds,
-    base: NodeId,
-    node: NodeRef,
-) -> Result<Draft, EvalStop>
-    requires operation { IsOfCreate request.now.op }
-    requires path { (making_of request.now.op).path ≡ path.now }
-    requires caller { request.now.caller ≡ Some caller.now }
-    requires sound { IsSound request.now }
-    requires pass { fresh.now.pass < 64 }
-    requires used { fresh.now.used < 2 ^ 40 }
-    requires visited { IsVisitFor (V.shown view.old) caller.now path.now (record { ids = ids; base = base; node = node; end = end.Reached }) }
-    requires looked { AreLookedAt (V.held view.old) (V.shown view.old) ids }
-    ensures held { V.held view.new ≡ V.held view.old }
-    ensures over { V.over view.new ≡ V.over view.old }
-    ensures grows { Grows (V.shown view.old) (V.shown view.new) }
-    ensures evaluated { IsEvaluated (V.held view.old) (V.shown view.new) request.now moment fresh.now result }
-{
-    let parts = part_names(alloc, path)?;
-    let names = parts.as_slice();
-    let depth = names.len() - 1;
-    match lacks(alloc, caller, path.front(alloc, depth)?, &node) {
-        Some(reply) => Ok(answered(alloc, ids.into_items(), reply, request.close)?),
-        None => {
-            let name = &names[depth];
-            let replaced = child_of(&node, name);
-            match look_below(view, ids.into_items(), &node, name) {
-                Ok(Find { ids, found }) => {
-                    let refusal = refused(alloc, request, caller, moment, &node, &found)?;
-                    let place = Place {
-                        ids,
-                        base,
-                        node,
-                        replaced,
-                    };
-                    let names = &names[depth..];
-                    finish(
-                        alloc, view, request, caller, names, moment, fresh, refusal, place,
-                    )
-                }
-                Err(stop) => Err(stop),
-            }
-        }
+        end => Ok(stopped(alloc, call, ids, end)?),
     }
 }
 
@@ -193,76 +133,114 @@ fn create_in<V: View>(
 fn create_under<V: View>(
     alloc: Global,
     view: &V,
-    request: &Request,
-    caller: &Caller,
-    path: &Path,
-    moment: u64,
-    fresh: &Fresh,
-    ids: NodeIds,
-    base: NodeId,
-    node: NodeRef,
+    call: &Call<'_>,
+    new: &NewNode<'_>,
+    visit: Visit,
     depth: usize,
 ) -> Result<Draft, EvalStop>
-    requires operation { IsOfCreate request.now.op }
-    requires path { (making_of request.now.op).path ≡ path.now }
-    requires caller { request.now.caller ≡ Some caller.now }
-    requires sound { IsSound request.now }
-    requires pass { fresh.now.pass < 64 }
-    requires used { fresh.now.used < 2 ^ 40 }
+    requires create { IsCreate call.now new.now }
+    requires visited { IsVisitFor (V.shown view.now) call.now.caller.now call.now.path.now visit }
+    requires looked { AreLookedAt (V.held view.now) (V.shown view.now) visit.ids }
+    requires lost { visit.end ≡ end.NotFound depth }
+    requires below { 1 < depth }
+    ensures { Answers (V.held view.now) (V.shown view.now) call.now result }
+{
+    view.stands();
+    let refusal = refused_below(alloc, call, depth - 1, &visit.base.node)?;
+    let place = Place {
+        reads: visit.ids.into_items(),
+        base: visit.base,
+        replaced: None,
+        names: names_from(call.path, depth),
+    };
+    finish(alloc, view, call, new, refusal, place)
+}
+
+// The names of a path from the one on with which it has so many.
+fn names_from(path: &Path, depth: usize) -> &[Name]
     requires below { 1 < depth }
     requires within { depth ≤ length path.now }
-    requires visited { IsVisitFor (V.shown view.now) caller.now path.now (record { ids = ids; base = base; node = node; end = end.NotFound depth }) }
-    requires looked { AreLookedAt (V.held view.now) (V.shown view.now) ids }
-    ensures { IsEvaluated (V.held view.now) (V.shown view.now) request.now moment fresh.now result }
+    ensures { result.now ≡ drop (depth - 1) path.now }
 {
-    let parts = part_names(alloc, path)?;
-    let names = parts.as_slice();
-    let front = path.front(alloc, depth - 1)?;
-    let refusal = refused_below(alloc, request, caller, moment, front, &node);
-    let place = Place {
-        ids: ids.into_items(),
-        base,
-        node,
-        replaced: None,
-    };
-    finish(
+    &path.names()[depth - 2..]
+}
+
+// The way ends before, and nothing is to be made.
+fn stopped(alloc: Global, call: &Call<'_>, ids: NodeIds, end: End) -> Result<Draft, AllocError>
+    ensures { IfOk result (λ draft. IsAnswered call.now.request.now.close (stop_reply ResourceTypeMismatch end) ids draft) }
+{
+    let reply = stop_reply(alloc, Code::ResourceTypeMismatch, end);
+    answered(alloc, ids.into_items(), reply, call.request.close)
+}
+
+// The parent was reached.
+fn create_in<V: View>(
+    alloc: Global,
+    view: &mut V,
+    call: &Call<'_>,
+    new: &NewNode<'_>,
+    at: Parent<'_>,
+) -> Result<Draft, EvalStop>
+    requires create { IsCreate call.now new.now }
+    requires parent { IsParent (V.held view.old) (V.shown view.old) call.now.caller.now call.now.path.now at }
+    ensures on { GoesOn (V.held view.old) (V.held view.new) (V.over view.old) (V.over view.new) (V.shown view.old) (V.shown view.new) }
+    ensures evaluated { Answers (V.held view.new) (V.shown view.new) call.now result }
+{
+    let denied = lacks_above(
         alloc,
-        view,
-        request,
-        caller,
-        &names[depth - 1..],
-        moment,
-        fresh,
-        refusal,
-        place,
-    )
+        call.caller,
+        Perm::WRITE_EXECUTE,
+        call.path,
+        call.path.names().len(),
+        &at.node,
+    )?;
+    match denied {
+        Some(reply) => Ok(answered(alloc, at.reads, reply, call.request.close)?),
+        None => match look_below(view, at.reads, &at.node, at.name) {
+            Ok(Find { ids, found }) => {
+                let refusal = refused(alloc, call, new.kind, &at.node, &found)?;
+                let place = Place {
+                    reads: ids,
+                    base: Base {
+                        id: at.id,
+                        node: at.node,
+                    },
+                    replaced: replaced_by(&found),
+                    names: from_ref(at.name),
+                };
+                finish(alloc, view, call, new, refusal, place)
+            }
+            Err(stop) => Err(stop),
+        },
+    }
+}
+
+// The node that was found, which goes.
+fn replaced_by(found: &Found) -> Option<NodeId>
+    ensures { result ≡ replaced_by found.now }
+{
+    match found {
+        Found::Node(id, _) => Some(*id),
+        _ => None,
+    }
 }
 
 // The place is known, and whether it is refused to make nodes there.
 fn finish<V: View>(
     alloc: Global,
     view: &V,
-    request: &Request,
-    caller: &Caller,
-    names: &[Name],
-    moment: u64,
-    fresh: &Fresh,
+    call: &Call<'_>,
+    new: &NewNode<'_>,
     refusal: Option<Reply>,
-    place: Place,
+    place: Place<'_>,
 ) -> Result<Draft, EvalStop>
-    requires operation { IsOfCreate request.now.op }
-    requires caller { request.now.caller ≡ Some caller.now }
-    requires sound { IsSound request.now }
-    requires pass { fresh.now.pass < 64 }
-    requires used { fresh.now.used < 2 ^ 40 }
-    requires few { length names.now ≤ 60 }
-    requires place { IsPlace (V.shown view.now) request.now moment names.now refusal place }
-    requires looked { AreLookedAt (V.held view.now) (V.shown view.now) place.ids.items }
-    ensures { IsEvaluated (V.held view.now) (V.shown view.now) request.now moment fresh.now result }
+    requires create { IsCreate call.now new.now }
+    requires place { IsPlace (V.held view.now) (V.shown view.now) call.now new.now refusal place }
+    ensures { Answers (V.held view.now) (V.shown view.now) call.now result }
 {
     match refusal {
-        Some(reply) => Ok(answered(alloc, place.ids, reply, request.close)?),
-        None => make(alloc, view, request, caller, names, moment, fresh, place),
+        Some(reply) => Ok(answered(alloc, place.reads, reply, call.request.close)?),
+        None => make(alloc, view, call, new, place),
     }
 }
 
@@ -270,27 +248,18 @@ fn finish<V: View>(
 fn make<V: View>(
     alloc: Global,
     view: &V,
-    request: &Request,
-    caller: &Caller,
-    names: &[Name],
-    moment: u64,
-    fresh: &Fresh,
-    place: Place,
+    call: &Call<'_>,
+    new: &NewNode<'_>,
+    place: Place<'_>,
 ) -> Result<Draft, EvalStop>
-    requires operation { IsOfCreate request.now.op }
-    requires caller { request.now.caller ≡ Some caller.now }
-    requires sound { IsSound request.now }
-    requires pass { fresh.now.pass < 64 }
-    requires used { fresh.now.used < 2 ^ 40 }
-    requires few { length names.now ≤ 60 }
-    requires place { IsPlace (V.shown view.now) request.now moment names.now None place }
-    requires looked { AreLookedAt (V.held view.now) (V.shown view.now) place.ids.items }
-    ensures { IsEvaluated (V.held view.now) (V.shown view.now) request.now moment fresh.now result }
+    requires create { IsCreate call.now new.now }
+    requires place { IsPlace (V.held view.now) (V.shown view.now) call.now new.now None place }
+    ensures { Answers (V.held view.now) (V.shown view.now) call.now result }
 {
-    let new = drawn(alloc, fresh, names.len())?;
-    let writes = written(alloc, place.base, place.replaced, new.as_slice())?;
+    let ids = drawn(alloc, &call.fresh, place.names.len())?;
+    let writes = written(alloc, &place, ids.as_slice())?;
     match unheld(view, writes.as_slice()) {
         Some(need) => Err(EvalStop::Need(need)),
-        None => Ok(made(alloc, request, caller, moment, names, place, new, writes)?),
+        None => Ok(made(alloc, call, new, place, ids, writes)?),
     }
 }

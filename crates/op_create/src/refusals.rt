@@ -1,90 +1,57 @@
 //! What a request is refused for.
-ghost use Rattle.std.specs.Prelude.{◌≡◌, Some, IfOk, false, is_ok};
-ghost use Rattle.std.specs.Option.{option_map_or};
+ghost use Rattle.std.specs.Prelude.{◌≡◌, ◌≤◌, length, take, IfOk};
 ghost use Rattle.inode_tree.specs.Inodes.{node_of};
-ghost use Rattle.head_text.specs.ConditionsOf.{conditions_of};
 ghost use Rattle.namespace_model.specs.Access.{write_execute};
-ghost use Rattle.namespace_model.specs.Refusals.{lacks, or_else, is_unmet_without, is_guarded, stamps_of};
+ghost use Rattle.namespace_model.specs.Refusals.{lacks, or_else, is_unmet_without};
 ghost use Rattle.namespace_model.specs.Nodes.{has_kind};
-ghost use Rattle.op_create.specs.Creates.{IsOfCreate, asked, making_of, has_no_children, refusal_over, refusal_by};
+ghost use Rattle.op_create.specs.Creates.{asked, has_no_children, refusal_over, refusal_by};
 
-use acl_check::{check, sticky_allows};
 use acl_text::Perm;
-use head_text::{Conditions, conditions_hold};
 use inode_tree::{Content, NodeRef};
-use namespace_model::{Caller, Code, Denied, Kind, Op, Reply, Request, Rule};
-use path_text::Path;
-use path_walk::{Found, denial, is_directory, refusal};
+use namespace_model::{Code, Kind, Reply};
+use path_walk::{
+    Call, Found, guarded, is_directory, lacks_above, refuse_if, taken, unmet, unmet_without,
+};
 use std::alloc::{AllocError, Global};
 
-// The refusal of a caller that may not write and execute in the directory at a path.
-pub(crate) fn lacks(alloc: Global, caller: &Caller, at: Path, node: &NodeRef) -> Option<Reply>
-    ensures { result ≡ lacks caller.now write_execute at (node_of node.now) }
-{
-    let meta = &node.inode().meta;
-    match check(
-        &meta.acl.access,
-        &meta.owner,
-        &meta.group,
-        caller,
-        Perm::WRITE_EXECUTE,
-    ) {
-        Ok(()) => None,
-        Err(refusal) => Some(denial(
-            alloc,
-            Denied {
-                rule: refusal.rule,
-                at,
-                want: Perm::WRITE_EXECUTE,
-                have: refusal.have,
-            },
-        )),
-    }
-}
-
-// The refusal where nothing is there: a condition asks for a node.
-fn unmet(alloc: Global, request: &Request, moment: u64) -> Option<Reply>
-    ensures { result ≡ is_unmet_without (asked request.now moment) }
-{
-    match conditions_hold(&request.cond, None) {
-        Ok(()) => None,
-        Err(_) => Some(refusal(alloc, Code::ConditionNotMet)),
-    }
-}
-
-// The first refusal where a directory is missing below the one at a path.
+// The first refusal where a directory is missing below the one at the first so many names of the path.
 pub(crate) fn refused_below(
     alloc: Global,
-    request: &Request,
-    caller: &Caller,
-    moment: u64,
-    at: Path,
+    call: &Call<'_>,
+    names: usize,
     node: &NodeRef,
-) -> Option<Reply>
-    ensures { result ≡ or_else (lacks caller.now 3 at (node_of node.now)) (is_unmet_without (asked request.now moment)) }
+) -> Result<Option<Reply>, AllocError>
+    requires { names ≤ length call.now.path.now }
+    ensures { IfOk result (λ reply. reply
+        ≡ or_else (lacks call.now.caller.now write_execute (take names call.now.path.now) (node_of node.now)) (is_unmet_without (asked call.now))) }
 {
-    match lacks(alloc, caller, at, node) {
-        Some(reply) => Some(reply),
-        None => unmet(alloc, request, moment),
+    let denied = lacks_above(
+        alloc,
+        call.caller,
+        Perm::WRITE_EXECUTE,
+        call.path,
+        names,
+        node,
+    )?;
+    match denied {
+        Some(reply) => Ok(Some(reply)),
+        None => Ok(unmet_without(alloc, &call.request.cond)),
     }
 }
 
 // The first refusal by what was found in a directory.
 pub(crate) fn refused(
     alloc: Global,
-    request: &Request,
-    caller: &Caller,
-    moment: u64,
+    call: &Call<'_>,
+    kind: Kind,
     dir: &NodeRef,
     found: &Found,
 ) -> Result<Option<Reply>, AllocError>
-    requires operation { IsOfCreate request.now.op }
-    requires caller { request.now.caller ≡ Some caller.now }
-    ensures { IfOk result (λ reply. reply ≡ refusal_by (asked request.now moment) (making_of request.now.op) (node_of dir.now) found.now) }
+    ensures { IfOk result (λ reply. reply ≡ refusal_by call.now kind (node_of dir.now) found.now) }
 {
     match found {
-        Found::Nothing => Ok(unmet(alloc, request, moment)),
-        Found::Node(node) => refused_over(alloc, request, caller, moment, dir, node),
+        Found::Nothing => Ok(unmet_without(alloc, &call.request.cond)),
+        Found::Node(_, node) => refused_over(alloc, call, kind, dir, node),
         Found::Stopped(_) => Ok(None),
     }
 }
@@ -92,92 +59,36 @@ pub(crate) fn refused(
 // The first refusal where a node is there.
 fn refused_over(
     alloc: Global,
-    request: &Request,
-    caller: &Caller,
-    moment: u64,
+    call: &Call<'_>,
+    kind: Kind,
     dir: &NodeRef,
     node: &NodeRef,
 ) -> Result<Option<Reply>, AllocError>
-    requires operation { IsOfCreate request.now.op }
-    requires caller { request.now.caller ≡ Some caller.now }
-    ensures { IfOk result (λ reply. reply ≡ refusal_over (asked request.now moment) (making_of request.now.op) (node_of dir.now) node.now) }
+    ensures { IfOk result (λ reply. reply ≡ refusal_over call.now kind (node_of dir.now) node.now) }
 {
-    if let Some(reply) = guarded(alloc, request, caller, dir, node)? {
+    let cond = &call.request.cond;
+    if let Some(reply) = guarded(alloc, call.caller, dir, call.path, node)? {
         return Ok(Some(reply));
     }
-    if exists_already(&request.cond) {
-        return Ok(Some(refusal(alloc, Code::PathAlreadyExists)));
+    if let Some(reply) = taken(alloc, cond) {
+        return Ok(Some(reply));
     }
-    if !is_met(&request.cond, node) {
-        return Ok(Some(refusal(alloc, Code::ConditionNotMet)));
+    if let Some(reply) = unmet(alloc, cond, node) {
+        return Ok(Some(reply));
     }
-    if !is_of_kind(request, node) {
-        return Ok(Some(refusal(alloc, Code::ResourceTypeMismatch)));
+    if let Some(reply) = refuse_if(alloc, !is_of_kind(kind, node), Code::ResourceTypeMismatch) {
+        return Ok(Some(reply));
     }
-    if !has_no_children(node) {
-        return Ok(Some(refusal(alloc, Code::DirectoryNotEmpty)));
-    }
-    Ok(None)
+    Ok(refuse_if(alloc, !has_no_children(node), Code::DirectoryNotEmpty))
 }
 
-// The refusal of a caller that may not replace a child of a sticky directory.
-fn guarded(
-    alloc: Global,
-    request: &Request,
-    caller: &Caller,
-    dir: &NodeRef,
-    node: &NodeRef,
-) -> Result<Option<Reply>, AllocError>
-    requires operation { IsOfCreate request.now.op }
-    ensures { IfOk result (λ reply. reply ≡ is_guarded caller.now (node_of dir.now) (making_of request.now.op).path (node_of node.now)) }
+// Whether the node is of a kind.
+fn is_of_kind(kind: Kind, node: &NodeRef) -> bool
+    ensures { result ≡ has_kind kind (node_of node.now) }
 {
-    let meta = &dir.inode().meta;
-    let owner = &node.inode().meta.owner;
-    if sticky_allows(meta.sticky, &meta.owner, owner, caller) {
-        return Ok(None);
-    }
-    match &request.op {
-        Op::Create { path, .. } => Ok(Some(denial(
-            alloc,
-            Denied {
-                rule: Rule::Sticky,
-                at: path.copy(alloc)?,
-                want: Perm::NONE,
-                have: Perm::NONE,
-            },
-        ))),
-        _ => unreachable!(),
-    }
-}
-
-// Whether no node may be there.
-fn exists_already(cond: &Conditions) -> bool
-    ensures { result ≡ option_map_or (λ tags. tags.any) cond.now.none false }
-{
-    match &cond.none {
-        Some(tags) => tags.any(),
-        None => false,
-    }
-}
-
-// Whether the conditions are met on a node.
-fn is_met(cond: &Conditions, node: &NodeRef) -> bool
-    ensures { result ≡ is_ok (conditions_of cond.now (Some (stamps_of (node_of node.now)))) }
-{
-    conditions_hold(cond, Some((node.number(), node.inode().meta.moment))).is_ok()
-}
-
-// Whether the node is of the kind that is asked for.
-fn is_of_kind(request: &Request, node: &NodeRef) -> bool
-    requires { IsOfCreate request.now.op }
-    ensures { result ≡ has_kind (making_of request.now.op).kind (node_of node.now) }
-{
-    match &request.op {
-        Op::Create { kind, .. } => match kind {
-            Kind::Directory => is_directory(node),
-            Kind::File => !is_directory(node),
-        },
-        _ => unreachable!(),
+    match kind {
+        Kind::Directory => is_directory(node),
+        Kind::File => !is_directory(node),
     }
 }
 

@@ -1,8 +1,6 @@
-pub mod LinkLists
 pub mod ChildLemmas
-pub mod BelowLemmas
 pub mod SubtreeLemmas
+pub mod ChildOrder
+pub mod ClearLemmas
 pub mod DeleteSteps
-pub mod RemovalLemmas
-pub mod TargetLemmas
-pub mod ParentLemmas
+pub mod DeleteAnswers

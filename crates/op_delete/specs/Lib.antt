@@ -1,1 +1,1 @@
-pub mod Removals
+pub mod Deletes

@@ -1,20 +1,18 @@
-ghost use Rattle.std.specs.Prelude.{◌≡◌, ◌<◌, ◌^◌, ◌∷◌, [], true, Some};
+ghost use Rattle.std.specs.Prelude.{◌≡◌, ◌≤◌, ◌<◌, ◌^◌, None};
+ghost use Rattle.lease_state.specs.declared.lease.TheConstants.{LAST_MOMENT};
 ghost use Rattle.inode_tree.specs.Promises.{IsEvaluated};
-ghost use Rattle.inode_tree.specs.Views.{Grows, covers, shown_at};
-ghost use Rattle.lock_core.specs.declared.object.LockMode.TheVariants.{Exclusive, Shared};
 ghost use Rattle.namespace_model.specs.declared.op.Op.TheVariants as op;
+ghost use Rattle.namespace_model.specs.Refusals.{is_no_superuser};
 ghost use Rattle.namespace_model.specs.Sound.{IsSound};
-ghost use Rattle.op_filesystem.specs.Filesystems.{IsOfFilesystem, IsBySuperuser, IsLacking, LacksName};
+ghost use Rattle.op_filesystem.specs.Filesystems.{IsOfFilesystem};
+ghost use Rattle.path_walk.specs.Calls.{IsCall, Answers, GoesOn};
+ghost use Rattle.path_walk.specs.Parents.{IsParent};
 
-use super::drafts::{already_there, made, superuser_only};
-use super::root::root_name;
-use acl_check::is_superuser;
+use super::drafts::{already_there, made};
 use head_text::Props;
-use inode_tree::{Draft, EvalStop, Fresh, Need, NodeId, NodeRef, View};
-use lock_core::LockMode;
-use namespace_model::{Caller, Op, Request};
-use path_text::{Name, Path};
-use path_walk::child_of;
+use inode_tree::{Draft, EvalStop, Fresh, View};
+use namespace_model::{Op, Request};
+use path_walk::{Call, Entered, Parent, answered, child_of, enter, superuser_only, unheld};
 use std::alloc::Global;
 
 /// Works out what a request to make a filesystem replies and changes at this moment, in milliseconds since 1970 (Filesystem - Create of
@@ -22,7 +20,7 @@ use std::alloc::Global;
 /// stripes of the account and of the id that is drawn have to be held exclusively. Where one isn't held so, the answer is `Need`; want
 /// of memory may come at any time.
 ///
-/// The request is a sound one to make a filesystem. One id is drawn where the filesystem is made, and else none.
+/// The request is a sound one to make a filesystem, and the moment has a date. One id is drawn where the filesystem is made, and else none.
 pub fn eval_filesystem<V: View>(
     alloc: Global,
     view: &mut V,
@@ -32,16 +30,22 @@ pub fn eval_filesystem<V: View>(
 ) -> Result<Draft, EvalStop>
     requires operation { IsOfFilesystem request.now.op }
     requires sound { IsSound request.now }
+    requires moment { moment ≤ LAST_MOMENT }
     requires pass { fresh.now.pass < 64 }
     requires used { fresh.now.used < 2 ^ 40 }
-    ensures held { V.held view.new ≡ V.held view.old }
-    ensures over { V.over view.new ≡ V.over view.old }
-    ensures grows { Grows (V.shown view.old) (V.shown view.new) }
+    ensures on { GoesOn (V.held view.old) (V.held view.new) (V.over view.old) (V.over view.new) (V.shown view.old) (V.shown view.new) }
     ensures evaluated { IsEvaluated (V.held view.old) (V.shown view.new) request.now moment fresh.now result }
 {
     match (&request.op, &request.caller) {
         (Op::CreateFilesystem { path, props }, Some(caller)) => {
-            create_filesystem(alloc, view, request, caller, path, props, moment, fresh)
+            let call = Call {
+                request,
+                caller,
+                path,
+                moment,
+                fresh: *fresh,
+            };
+            create_filesystem(alloc, view, &call, props)
         }
         _ => unreachable!(),
     }
@@ -51,126 +55,47 @@ pub fn eval_filesystem<V: View>(
 fn create_filesystem<V: View>(
     alloc: Global,
     view: &mut V,
-    request: &Request,
-    caller: &Caller,
-    path: &Path,
+    call: &Call<'_>,
     props: &Option<Props>,
-    moment: u64,
-    fresh: &Fresh,
 ) -> Result<Draft, EvalStop>
-    requires operation { request.now.op ≡ op.CreateFilesystem path.now props.now }
-    requires caller { request.now.caller ≡ Some caller.now }
-    requires sound { IsSound request.now }
-    requires pass { fresh.now.pass < 64 }
-    requires used { fresh.now.used < 2 ^ 40 }
-    ensures held { V.held view.new ≡ V.held view.old }
-    ensures over { V.over view.new ≡ V.over view.old }
-    ensures grows { Grows (V.shown view.old) (V.shown view.new) }
-    ensures evaluated { IsEvaluated (V.held view.old) (V.shown view.new) request.now moment fresh.now result }
+    requires operation { call.now.request.now.op ≡ op.CreateFilesystem call.now.path.now props.now }
+    requires call { IsCall call.now }
+    ensures on { GoesOn (V.held view.old) (V.held view.new) (V.over view.old) (V.over view.new) (V.shown view.old) (V.shown view.new) }
+    ensures evaluated { Answers (V.held view.new) (V.shown view.new) call.now result }
 {
-    if !is_superuser(caller) {
-        return Ok(superuser_only(alloc, path, request.close)?);
+    if let Some(reply) = superuser_only(alloc, call.caller, call.path)? {
+        return Ok(answered(alloc, Vec::new(alloc), reply, call.request.close)?);
     }
-    let name = root_name(alloc, path)?;
-    create_named(alloc, view, request, name, props, moment, fresh)
+    match enter(alloc, view, call.path, call.caller) {
+        Ok(Entered::At(at)) => create_in(alloc, view, call, props, at),
+        Ok(Entered::Ended(..)) => {
+            view.stands();
+            unreachable!()
+        }
+        Err(stop) => Err(stop),
+    }
 }
 
-// The superuser asks for a filesystem of this name.
-fn create_named<V: View>(
-    alloc: Global,
-    view: &mut V,
-    request: &Request,
-    name: Name,
-    props: &Option<Props>,
-    moment: u64,
-    fresh: &Fresh,
-) -> Result<Draft, EvalStop>
-    requires operation { request.now.op ≡ op.CreateFilesystem (name ∷ []) props.now }
-    requires superuser { IsBySuperuser request.now }
-    requires sound { IsSound request.now }
-    requires pass { fresh.now.pass < 64 }
-    requires used { fresh.now.used < 2 ^ 40 }
-    ensures held { V.held view.new ≡ V.held view.old }
-    ensures over { V.over view.new ≡ V.over view.old }
-    ensures grows { Grows (V.shown view.old) (V.shown view.new) }
-    ensures evaluated { IsEvaluated (V.held view.old) (V.shown view.new) request.now moment fresh.now result }
-{
-    let account = view.get(NodeId(0), LockMode::Shared)?;
-    create_in(alloc, view, &account, request, name, props, moment, fresh)
-}
-
-// The same, once the account was looked at.
+// The same for the superuser, once the account was looked at.
 fn create_in<V: View>(
     alloc: Global,
     view: &V,
-    account: &NodeRef,
-    request: &Request,
-    name: Name,
+    call: &Call<'_>,
     props: &Option<Props>,
-    moment: u64,
-    fresh: &Fresh,
+    at: Parent<'_>,
 ) -> Result<Draft, EvalStop>
-    requires account { shown_at (V.shown view.now) 0 ≡ Some account.now }
-    requires shared { covers (V.held view.now 0) Shared ≡ true }
-    requires operation { request.now.op ≡ op.CreateFilesystem (name ∷ []) props.now }
-    requires superuser { IsBySuperuser request.now }
-    requires sound { IsSound request.now }
-    requires pass { fresh.now.pass < 64 }
-    requires used { fresh.now.used < 2 ^ 40 }
-    ensures { IsEvaluated (V.held view.now) (V.shown view.now) request.now moment fresh.now result }
+    requires operation { call.now.request.now.op ≡ op.CreateFilesystem call.now.path.now props.now }
+    requires call { IsCall call.now }
+    requires allowed { is_no_superuser call.now.caller.now call.now.path.now ≡ None }
+    requires parent { IsParent (V.held view.now) (V.shown view.now) call.now.caller.now call.now.path.now at }
+    ensures { Answers (V.held view.now) (V.shown view.now) call.now result }
 {
-    match child_of(account, &name) {
-        Some(_) => Ok(already_there(alloc, request.close)?),
-        None => create_root(alloc, view, request, name, props, moment, fresh),
+    if child_of(&at.node, at.name).is_some() {
+        return Ok(already_there(alloc, call, at.reads)?);
     }
-}
-
-// The same, where the name leads nowhere from the account.
-fn create_root<V: View>(
-    alloc: Global,
-    view: &V,
-    request: &Request,
-    name: Name,
-    props: &Option<Props>,
-    moment: u64,
-    fresh: &Fresh,
-) -> Result<Draft, EvalStop>
-    requires free { LacksName (V.shown view.now) name }
-    requires shared { covers (V.held view.now 0) Shared ≡ true }
-    requires operation { request.now.op ≡ op.CreateFilesystem (name ∷ []) props.now }
-    requires superuser { IsBySuperuser request.now }
-    requires sound { IsSound request.now }
-    requires pass { fresh.now.pass < 64 }
-    requires used { fresh.now.used < 2 ^ 40 }
-    ensures { IsEvaluated (V.held view.now) (V.shown view.now) request.now moment fresh.now result }
-{
-    let id = fresh.id(0);
-    match lacking(view, id) {
-        Some(stripe) => Err(EvalStop::Need(Need {
-            stripe,
-            mode: LockMode::Exclusive,
-        })),
-        None => Ok(made(alloc, name, moment, props, id, request.close)?),
+    let id = call.fresh.id(0);
+    match unheld(view, &[at.id, id]) {
+        Some(need) => Err(EvalStop::Need(need)),
+        None => Ok(made(alloc, call, props, at, id)?),
     }
-}
-
-// A stripe that has to be held exclusively to put a node under an id and to lead to it from the account, and isn't.
-fn lacking<V: View>(view: &V, id: NodeId) -> Option<u8>
-    ensures { IsLacking (V.held view.now) id.0 result }
-{
-    if !is_exclusive(view, 0) {
-        return Some(0);
-    }
-    let stripe = (id.0 % 64) as u8;
-    if !is_exclusive(view, stripe) {
-        return Some(stripe);
-    }
-    None
-}
-
-fn is_exclusive<V: View>(view: &V, stripe: u8) -> bool
-    requires { stripe < 64 }
-    ensures { result ≡ covers (V.held view.now stripe) Exclusive }
-{
-    matches!(view.mode(stripe), LockMode::Exclusive)
 }

@@ -1,5 +1,5 @@
-//! The root of a new filesystem, and its name.
-ghost use Rattle.std.specs.Prelude.{◌≡◌, ◌<◌, [], ◌∷◌, length, IfOk, unwrap_or};
+//! The root of a new filesystem.
+ghost use Rattle.std.specs.Prelude.{◌≡◌, [], IfOk, unwrap_or};
 ghost use Rattle.namespace_model.specs.CreateFilesystem.{root_access};
 ghost use Rattle.op_filesystem.specs.Filesystems.{root_inode};
 
@@ -8,19 +8,7 @@ use head_text::Props;
 use inode_tree::{Children, Content, Inode, Meta};
 use lease_state::Lease;
 use namespace_model::Kind;
-use path_text::{Name, Path};
 use std::alloc::{AllocError, Global};
-
-// The name of a filesystem by the path of its root.
-pub(crate) fn root_name(alloc: Global, path: &Path) -> Result<Name, AllocError>
-    requires { length path.now ≡ 1 }
-    ensures { IfOk result (λ name. path.now ≡ name ∷ []) }
-{
-    match path.fs() {
-        Some(fs) => fs.name().copy(alloc),
-        None => unreachable!(),
-    }
-}
 
 // The access list of `rwxr-x---`, and no default list.
 fn root_access(alloc: Global) -> Result<AclPair, AllocError>

@@ -1,7 +1,6 @@
 -- The reply to a request for the properties of a node, by what stands at the path.
 use Rattle.std.specs.Prelude.{ℕ, Bool, List, ◌∷◌, ◌++◌, Some}
 use Rattle.std.specs.Option.{unwrap_or}
-use Rattle.head_text.specs.declared.conditions.Conditions.{Conditions}
 use Rattle.head_text.specs.ConditionsOf.{conditions_of}
 use Rattle.namespace_model.specs.declared.code.Code.TheVariants.{PathNotFound}
 use Rattle.namespace_model.specs.declared.field.Field.{Field}
@@ -13,9 +12,9 @@ use Rattle.namespace_model.specs.GetProperties.{access_fields, user_fields, leng
 use Rattle.namespace_model.specs.Nodes.{Node, kind_of}
 use Rattle.namespace_model.specs.Refusals.{stamps_of, unmet_for_look}
 use Rattle.namespace_model.specs.Replies.{refusal, success, node_fields, lease_fields}
-use Rattle.namespace_model.specs.Trees.{Path}
 use Rattle.namespace_model.specs.Walks.{missing_code}
 use Rattle.inode_tree.specs.Inodes.{node_of}
+use Rattle.path_walk.specs.declared.call.Call.{Call}
 use Rattle.path_walk.specs.declared.find.Found.{Found}
 use Rattle.path_walk.specs.declared.find.Found.TheVariants as found
 use Rattle.path_walk.specs.Answers.{stop_reply}
@@ -31,10 +30,10 @@ shown_fields moment status x =
     node_fields x ++ ResourceType (kind_of x) ∷ (access_fields x ++ (user_fields status x ++ (lease_fields x.lease moment ++ length_fields x.content)))
 
 -- the reply where the node is there: that a condition isn't met, or what it is
-abbrev pub node_reply : Conditions → ℕ → Bool → Node → Reply
-node_reply cond moment status x = unwrap_or (unmet_for_look (conditions_of cond (Some (stamps_of x)))) (success 200 (shown_fields moment status x))
+abbrev pub node_reply : Call → Bool → Node → Reply
+node_reply call status x = unwrap_or (unmet_for_look (conditions_of call.request.now.cond (Some (stamps_of x)))) (success 200 (shown_fields call.moment status x))
 
-abbrev pub properties_reply : Path → Conditions → ℕ → Bool → Found → Reply
-properties_reply path cond moment status (found.Node x) = node_reply cond moment status (node_of x)
-properties_reply path cond moment status found.Nothing = refusal (missing_code path PathNotFound)
-properties_reply path cond moment status (found.Stopped e) = stop_reply PathNotFound e
+abbrev pub properties_reply : Call → Bool → Found → Reply
+properties_reply call status (found.Node id x) = node_reply call status (node_of x)
+properties_reply call status found.Nothing = refusal (missing_code call.path.now PathNotFound)
+properties_reply call status (found.Stopped e) = stop_reply PathNotFound e

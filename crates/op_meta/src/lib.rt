@@ -11,7 +11,6 @@
 #![tactic(auto)]
 
 mod eval;
-mod fields;
 mod properties;
 
 pub use eval::eval_meta;

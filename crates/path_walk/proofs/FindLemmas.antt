@@ -3,7 +3,6 @@ use Rattle.std.proofs.Common.{◌≡◌, ◌≢◌, inl, inr, ℕ, ◌+◌, ◌-
 use Rattle.std.proofs.lemmas.Bool.{false≢true}
 use Rattle.std.proofs.lemmas.Option.{same_Some}
 use Rattle.std.proofs.Math.Nat.{mod-lt}
-use Rattle.std.proofs.Math.Seq.{get_or-append_seam}
 use Rattle.std.proofs.lemmas.List.{map-append}
 use Rattle.std.proofs.lemmas.Grind.{flat_map-append}
 use Rattle.std.proofs.Math.Dec.{lit<}
@@ -11,9 +10,8 @@ use Rattle.std.specs.Cmp.{unsigned_Decides}
 use Rattle.lock_core.specs.declared.object.LockMode.TheVariants.{Shared}
 use Rattle.namespace_model.specs.declared.caller.Caller.{Caller}
 use Rattle.namespace_model.specs.Nodes.{Node}
-use Rattle.namespace_model.specs.Trees.{Path, Tree, at, parent}
+use Rattle.namespace_model.specs.Trees.{Path, Tree, at as at_path, parent}
 use Rattle.namespace_model.proofs.Alikeness.{among_left}
-use Rattle.namespace_model.proofs.Prefixes.{length_append, parent_name}
 use Rattle.inode_tree.specs.declared.id.NodeId.{NodeId}
 use Rattle.inode_tree.specs.declared.need.Need.{Need}
 use Rattle.inode_tree.specs.Inodes.{BareInode, node_of}
@@ -26,34 +24,22 @@ use Rattle.inode_tree.specs.Stands.{Stands}
 use Rattle.inode_tree.specs.Views.{Held, Shown, Agrees, Grows, IsKnown, covers}
 use Rattle.inode_tree.proofs.FrameLemmas.{short_id}
 use Rattle.inode_tree.proofs.IndexLemmas.{index_from_stands, reached_short}
+use Rattle.path_walk.specs.declared.parent.Parent.{Parent}
 use Rattle.path_walk.specs.declared.find.Find.{Find}
 use Rattle.path_walk.specs.declared.find.Found.{Found}
 use Rattle.path_walk.specs.declared.find.Found.TheVariants as found
 use Rattle.path_walk.specs.declared.stop.End.{End}
 use Rattle.path_walk.specs.declared.stop.End.TheVariants as end
 use Rattle.path_walk.specs.declared.stop.Visit.{Visit}
-use Rattle.path_walk.specs.Finds.{last_read, read_to, IsFound, IsFindFor, IsNeedOfFind, IsLook, IsLookAs}
+use Rattle.path_walk.specs.Calls.{GoesOn}
+use Rattle.path_walk.specs.Parents.{IsParentIn, IsParent, IsStop}
+use Rattle.path_walk.specs.Finds.{last_read, read_to, IsFound, IsPlaced, IsPlacedAt, IsFind, IsFindFor, IsNeedOfFind, IsLook, IsLookAs}
 use Rattle.path_walk.specs.Visits.{end_of, IsVisitFor, AreLookedAt, IsOnTheWay, NeedsChild}
 use Rattle.namespace_model.specs.Ways.{Way, reached, missing, blocked, closed, base_of, way_of, read_on}
+use Rattle.path_walk.proofs.CallLemmas.{agrees_earlier, looked_later}
 use Rattle.path_walk.proofs.SetLemmas.{lies_more}
 use Rattle.path_walk.proofs.StepLemmas.{reached_way}
-use Rattle.path_walk.proofs.TrailLemmas.{agreed, agrees_before, looked_grows, looked_more, numbers-append}
-
--- ---- the last name
-
--- a path is its parent and its last name
-pub last_name : (path names : Path) (m : ℕ) (n : List ℕ) → path ≢ [] → names ≡ path → m ≡ length names → n ≡ get_or names (m - 1) n → path ≡ parent path ++ n ∷ []
-last_name path names m n some same size here = elim (parent_name path) [
-  | inl none ↦ absurd (some none)
-  | inr last ↦
-      let long : length path ≡ length (parent path) + 1 = ap (λ (l : Path). length l) last.1 ∙ length_append (parent path) (last.0 ∷ []) in
-      let whole : m ≡ length path = size ∙ ap (λ (l : Path). length l) same in
-      let place : m - 1 ≡ length (parent path) = omega arith in
-      let is : n ≡ last.0 =
-      here ∙ ap (λ l. get_or l (m - 1) n) same ∙ ap (λ k. get_or path k n) place ∙ ap (λ l. get_or l (length (parent path)) n) last.1
-      ∙ get_or-append_seam (parent path) last.0 [] n in
-      last.1 ∙ ap (λ x. parent path ++ x ∷ []) (sym is)
-]
+use Rattle.path_walk.proofs.TrailLemmas.{agreed, looked_more, numbers-append}
 
 -- ---- a look
 
@@ -62,7 +48,7 @@ module _ (parts : Parts) (t : Tree) (stands : Stands parts t) (caller : Caller) 
   index : IsIndex parts t (follow parts 0)
   index = index_from_stands parts t stands
 
-  leads_to : (child : Option ℕ) → child_of x n ≡ child → follow parts 0 path ≡ child
+  pub leads_to : (child : Option ℕ) → child_of x n ≡ child → follow parts 0 path ≡ child
   leads_to child e =
       let place = index.places (parent path) i leads in
       ap (follow parts 0) named ∙ sym (place.links n) ∙ ap (λ (y : BareInode). child_of y n) (same_Some place.inode x (sym place.found ∙ there)) ∙ e
@@ -70,10 +56,10 @@ module _ (parts : Parts) (t : Tree) (stands : Stands parts t) (caller : Caller) 
   pub child_there : (c : ℕ) → child_of x n ≡ Some c → IsSome (inode_at parts c)
   child_there c e = stands.found path c (leads_to (Some c) e)
 
-  pub no_node : child_of x n ≡ None → at t path ≡ None
+  pub no_node : child_of x n ≡ None → at_path t path ≡ None
   no_node e = index.nothing path (leads_to None e)
 
-  pub node_there : (c : ℕ) (y : BareInode) → child_of x n ≡ Some c → inode_at parts c ≡ Some y → at t path ≡ Some (node_of y)
+  pub node_there : (c : ℕ) (y : BareInode) → child_of x n ≡ Some c → inode_at parts c ≡ Some y → at_path t path ≡ Some (node_of y)
   node_there c y e here =
       let place = index.places path c (leads_to (Some c) e) in
       place.shows ∙ ap (λ (z : BareInode). Some (node_of z)) (same_Some place.inode y (sym place.found ∙ here))
@@ -81,77 +67,69 @@ module _ (parts : Parts) (t : Tree) (stands : Stands parts t) (caller : Caller) 
   pub path_id : (c : ℕ) → child_of x n ≡ Some c → id_at parts path ≡ Some c
   path_id c e = let way = leads_to (Some c) e in short_id parts path (reached_short parts t stands path c way) ∙ way
 
-ids_of_append : (parts : Parts) (ps qs : List Path) → ids_of parts (ps ++ qs) ≡ ids_of parts ps ++ ids_of parts qs
+pub ids_of_append : (parts : Parts) (ps qs : List Path) → ids_of parts (ps ++ qs) ≡ ids_of parts ps ++ ids_of parts qs
 ids_of_append parts ps qs =
     ap (map (λ (z : Path × ℕ). z.1)) (flat_map-append (λ (p : Path). with_id p (id_at parts p)) ps qs) ∙ map-append (λ (z : Path × ℕ). z.1) (known parts ps) (known parts qs)
 
--- what was found
-module _ (held : Held) (old new : Shown) (caller : Caller) (path : Path) (n : List ℕ) (v : Visit) (grows : Grows old new) (visited : IsVisitFor old caller path v) (looked : AreLookedAt held old v.ids)
-    (is_end : v.end ≡ end.Reached) (named : path ≡ parent path ++ n ∷ []) where
-  way_reached : (parts : Parts) (t : Tree) → Stands parts t → Agrees old parts → way_of t caller path ≡ reached
-  way_reached parts t stands agrees = let visit = visited parts t stands agrees in reached_way (way_of t caller path) (sym is_end ∙ visit.ends)
+-- what was found behind a parent
+module _ (held : Held) (shown : Shown) (caller : Caller) (path : Path) (at : Parent) (is : IsParent held shown caller path at) where
+  here : (parts : Parts) (t : Tree) → Stands parts t → Agrees shown parts → IsParentIn parts t caller path at
+  here = is.is_parent
 
-  parent_id : (parts : Parts) (t : Tree) → Stands parts t → Agrees old parts → follow parts 0 (parent path) ≡ Some v.base.0
-  parent_id parts t stands agrees =
-      let visit = visited parts t stands agrees in ap (λ w. follow parts 0 (base_of path w)) (sym (way_reached parts t stands agrees)) ∙ visit.leads
-
-  pub child_known : (child : ℕ) → child_of v.node n ≡ Some child → IsKnown old child
+  pub child_known : (child : ℕ) → child_of at.node at.name.now ≡ Some child → IsKnown shown child
   child_known child e parts t stands agrees =
-      child_there parts t stands caller path v.base.0 v.node n (parent_id parts t stands agrees) (visited parts t stands agrees).there named child e
+      let p = here parts t stands agrees in child_there parts t stands caller path at.id.0 at.node at.name.now p.leads p.there is.named child e
 
-  read_there : (parts : Parts) (t : Tree) → Stands parts t → Agrees new parts → (o : Option Node) → at t path ≡ o → ids_of parts (read_to t caller path) ≡ numbers_of v.ids ++ ids_of parts (last_read reached path o)
+  read_there : (parts : Parts) (t : Tree) → Stands parts t → Agrees shown parts → (o : Option Node) → at_path t path ≡ o
+      → ids_of parts (read_to t caller path) ≡ numbers_of at.reads.items ++ ids_of parts (last_read reached path o)
   read_there parts t stands agrees o e =
-      let before = agrees_before old new parts grows agrees in
-      let visit = visited parts t stands before in
-      ap (λ w. ids_of parts (read_on t caller path ++ last_read w path (at t path))) (way_reached parts t stands before)
+      let p = here parts t stands agrees in
+      ap (λ w. ids_of parts (read_on t caller path ++ last_read w path (at_path t path))) p.passes
       ∙ ap (λ u. ids_of parts (read_on t caller path ++ last_read reached path u)) e
       ∙ ids_of_append parts (read_on t caller path) (last_read reached path o)
-      ∙ ap (λ (l : List ℕ). l ++ ids_of parts (last_read reached path o)) (sym visit.read)
+      ∙ ap (λ (l : List ℕ). l ++ ids_of parts (last_read reached path o)) (sym p.read)
 
   -- what the look shows is what stands at the path
-  pub look_finds : (f : Find) → IsLook held new v.ids v.node n f → IsFindFor new caller path f × AreLookedAt held new f.ids.items
+  pub look_finds : (f : Find) → IsLook held shown at.reads.items at.node at.name.now f → IsFindFor shown caller path f × AreLookedAt held shown f.ids.items
   look_finds f look = by_found f.found refl look
     where
-      ids_are : (e : Found) → (after : List NodeId) → f.ids.items ≡ after → AreLookedAt held new after → AreLookedAt held new f.ids.items
-      ids_are e after same are = subst (λ (l : List NodeId). AreLookedAt held new l) (sym same) are
-
-      now : AreLookedAt held new v.ids
-      now = looked_grows held old new v.ids grows looked
-
-      by_found : (e : Found) → f.found ≡ e → IsLookAs held new v.ids v.node n f.ids.items e → IsFindFor new caller path f × AreLookedAt held new f.ids.items
-      by_found found.Nothing is l = (
+      by_found : (e : Found) → f.found ≡ e → IsLookAs held shown at.reads.items at.node at.name.now f.ids.items e → IsFindFor shown caller path f × AreLookedAt held shown f.ids.items
+      by_found found.Nothing same l = (
         λ parts t stands agrees.
-            let before = agrees_before old new parts grows agrees in
-            let none : at t path ≡ None = no_node parts t stands caller path v.base.0 v.node n (parent_id parts t stands before) (visited parts t stands before).there named l.0 in
+            let p = here parts t stands agrees in
+            let none : at_path t path ≡ None = no_node parts t stands caller path at.id.0 at.node at.name.now p.leads p.there is.named l.0 in
             record {
-              found_is = subst (λ (e : Found). IsFound t caller path e) (sym is) (way_reached parts t stands before, none);
-              read = ap (λ (k : List NodeId). numbers_of k) l.1 ∙ sym (read_there parts t stands agrees None none ∙ append-nil (numbers_of v.ids));
+              found_is = subst (λ (e : Found). IsFound t caller path e) (sym same) (p.passes, none);
+              placed = subst (λ (e : Found). IsPlaced parts path e) (sym same) tt;
+              read = ap (λ (k : List NodeId). numbers_of k) l.1 ∙ sym (read_there parts t stands agrees None none ∙ append-nil (numbers_of at.reads.items));
             },
-        ids_are f.found v.ids l.1 now,
+        subst (λ (k : List NodeId). AreLookedAt held shown k) (sym l.1) is.looked,
       )
-      by_found (found.Node y) is l = (
+      by_found (found.Node c y) same l = (
         λ parts t stands agrees.
-            let before = agrees_before old new parts grows agrees in
-            let here : inode_at parts l.0.0 ≡ Some y = agreed new parts l.0.0 y agrees l.2 in
-            let node : at t path ≡ Some (node_of y) = node_there parts t stands caller path v.base.0 v.node n (parent_id parts t stands before) (visited parts t stands before).there named l.0.0 y l.1 here in
-            let id : id_at parts path ≡ Some l.0.0 = path_id parts t stands caller path v.base.0 v.node n (parent_id parts t stands before) (visited parts t stands before).there named l.0.0 l.1 in
+            let p = here parts t stands agrees in
+            let there : inode_at parts c.0 ≡ Some y = agreed shown parts c.0 y agrees l.1 in
+            let node : at_path t path ≡ Some (node_of y) = node_there parts t stands caller path at.id.0 at.node at.name.now p.leads p.there is.named c.0 y l.0 there in
+            let id : id_at parts path ≡ Some c.0 = path_id parts t stands caller path at.id.0 at.node at.name.now p.leads p.there is.named c.0 l.0 in
             record {
-              found_is = subst (λ (e : Found). IsFound t caller path e) (sym is) (way_reached parts t stands before, node);
-              read = ap (λ (k : List NodeId). numbers_of k) l.4 ∙ numbers-append v.ids (l.0 ∷ [])
+              found_is = subst (λ (e : Found). IsFound t caller path e) (sym same) (p.passes, node);
+              placed = subst (λ (e : Found). IsPlaced parts path e) (sym same)
+                  (record { leads = leads_to parts t stands caller path at.id.0 at.node at.name.now p.leads p.there is.named (Some c.0) l.0; there = there });
+              read = ap (λ (k : List NodeId). numbers_of k) l.3 ∙ numbers-append at.reads.items (c ∷ [])
                   ∙ sym (read_there parts t stands agrees (Some (node_of y)) node
-                  ∙ ap (λ (o : Option ℕ). numbers_of v.ids ++ map (λ (z : Path × ℕ). z.1) (with_id path o ++ [])) id);
+                  ∙ ap (λ (o : Option ℕ). numbers_of at.reads.items ++ map (λ (z : Path × ℕ). z.1) (with_id path o ++ [])) id);
             },
-        ids_are f.found (v.ids ++ l.0 ∷ []) l.4 (looked_more held new v.ids l.0 now l.3),
+        subst (λ (k : List NodeId). AreLookedAt held shown k) (sym l.3) (looked_more held shown at.reads.items c is.looked l.2),
       )
-      by_found (found.Stopped e) is l = absurd l
+      by_found (found.Stopped e) same l = absurd l
 
   -- a child whose stripe isn't held
-  pub child_needs : (m : Need) → NeedsChild held v.node n m → IsNeedOfFind held new caller path m
+  pub child_needs : (m : Need) → NeedsChild held at.node at.name.now m → IsNeedOfFind held shown caller path m
   child_needs m lacks = record {
     within = subst (λ s. s < 64) (sym lacks.stripe) (mod-lt lacks.child (lit< tt));
     asks = lacks.asks;
     lacks = ap (λ s. covers (held s) Shared) lacks.stripe ∙ lacks.lacks;
-    needed = λ parts t stands agrees. needed parts t stands agrees;
+    needed = λ parts t stands agrees. by_node parts t stands agrees (inode_at parts lacks.child) refl (child_known lacks.child lacks.leads parts t stands agrees);
   }
     where
       lies_behind : (s : ℕ) (xs : List ℕ) (i : ℕ) → (i % 64 == s) ≡ true → lies_in s (xs ++ i ∷ []) ≡ true
@@ -162,38 +140,87 @@ module _ (held : Held) (old new : Shown) (caller : Caller) (path : Path) (n : Li
           or_true true = refl
           or_true false = refl
 
-      needed : (parts : Parts) (t : Tree) → Stands parts t → Agrees new parts → lies_in m.stripe (ids_of parts (read_to t caller path)) ≡ true
-      needed parts t stands agrees =
-          let before = agrees_before old new parts grows agrees in
-          let visit = visited parts t stands before in
-          let leads = parent_id parts t stands before in
-          by_node parts t stands agrees leads visit.there (inode_at parts lacks.child) refl (child_there parts t stands caller path v.base.0 v.node n leads visit.there named lacks.child lacks.leads)
-        where
-          by_node : (parts : Parts) (t : Tree) → Stands parts t → Agrees new parts → follow parts 0 (parent path) ≡ Some v.base.0 → inode_at parts v.base.0 ≡ Some v.node
-              → (o : Option BareInode) → inode_at parts lacks.child ≡ o → IsSome o → lies_in m.stripe (ids_of parts (read_to t caller path)) ≡ true
-          by_node parts t stands agrees leads there None e h = absurd (false≢true h)
-          by_node parts t stands agrees leads there (Some y) e h =
-              let node : at t path ≡ Some (node_of y) = node_there parts t stands caller path v.base.0 v.node n leads there named lacks.child y lacks.leads e in
-              let id : id_at parts path ≡ Some lacks.child = path_id parts t stands caller path v.base.0 v.node n leads there named lacks.child lacks.leads in
-              ap (lies_in m.stripe) (read_there parts t stands agrees (Some (node_of y)) node ∙ ap (λ (o : Option ℕ). numbers_of v.ids ++ map (λ (z : Path × ℕ). z.1) (with_id path o ++ [])) id)
-              ∙ lies_behind m.stripe (numbers_of v.ids) lacks.child ((unsigned_Decides (lacks.child % 64) m.stripe).1 (sym lacks.stripe))
+      by_node : (parts : Parts) (t : Tree) → Stands parts t → Agrees shown parts → (o : Option BareInode) → inode_at parts lacks.child ≡ o → IsSome o
+          → lies_in m.stripe (ids_of parts (read_to t caller path)) ≡ true
+      by_node parts t stands agrees None e h = absurd (false≢true h)
+      by_node parts t stands agrees (Some y) e h =
+          let p = here parts t stands agrees in
+          let node : at_path t path ≡ Some (node_of y) = node_there parts t stands caller path at.id.0 at.node at.name.now p.leads p.there is.named lacks.child y lacks.leads e in
+          let id : id_at parts path ≡ Some lacks.child = path_id parts t stands caller path at.id.0 at.node at.name.now p.leads p.there is.named lacks.child lacks.leads in
+          ap (lies_in m.stripe) (read_there parts t stands agrees (Some (node_of y)) node ∙ ap (λ (o : Option ℕ). numbers_of at.reads.items ++ map (λ (z : Path × ℕ). z.1) (with_id path o ++ [])) id)
+          ∙ lies_behind m.stripe (numbers_of at.reads.items) lacks.child ((unsigned_Decides (lacks.child % 64) m.stripe).1 (sym lacks.stripe))
 
--- ---- a way that ends before
+-- a parent is one at a later view too
+pub parent_later : {O : Type 0} {held later : Held} {over over_later : O} {shown shown_later : Shown} {caller : Caller} {path : Path}
+    → GoesOn held later over over_later shown shown_later → (at : Parent) → IsParent held shown caller path at → IsParent later shown_later caller path at
+parent_later on at is = record {
+  named = is.named;
+  is_parent = λ parts t stands agrees. is.is_parent parts t stands (agrees_earlier on parts agrees);
+  looked = looked_later on at.reads.items is.looked;
+}
 
-pub stopped_finds : (held : Held) (shown : Shown) (caller : Caller) (path : Path) (v : Visit) (e : End) (f : Find) → IsVisitFor shown caller path v → AreLookedAt held shown v.ids → v.end ≡ e → e ≢ end.Reached
-    → f.ids.items ≡ v.ids → f.found ≡ found.Stopped e → IsFindFor shown caller path f × AreLookedAt held shown f.ids.items
-stopped_finds held shown caller path v e f visited looked is other same stops = (
-  λ parts t stands agrees.
+-- what was found is so at a later view too
+pub find_later : {O : Type 0} {held later : Held} {over over_later : O} {shown shown_later : Shown}
+    → GoesOn held later over over_later shown shown_later → (caller : Caller) (path : Path) (f : Find) → IsFindFor shown caller path f → IsFindFor shown_later caller path f
+find_later on caller path f is parts t stands agrees = is parts t stands (agrees_earlier on parts agrees)
+
+-- a node that was found stands at the path, under its id
+pub node_found : (parts : Parts) (t : Tree) (caller : Caller) (path : Path) (f : Find) (id : NodeId) (y : BareInode) → IsFind parts t caller path f → f.found ≡ found.Node id y
+    → (way_of t caller path ≡ reached) × (at_path t path ≡ Some (node_of y)) × IsPlacedAt parts path id.0 y
+node_found parts t caller path f id y is same =
+    let here = subst (λ (e : Found). IsFound t caller path e) same is.found_is in
+    (here.0, here.1, subst (λ (e : Found). IsPlaced parts path e) same is.placed)
+
+-- a look that finds no node finds nothing
+pub nothing_found : (held : Held) (shown : Shown) (ids : List NodeId) (x : BareInode) (name : List ℕ) (f : Find) → IsLook held shown ids x name f
+    → ((id : NodeId) (y : BareInode) → f.found ≡ found.Node id y → ⊥) → f.found ≡ found.Nothing
+nothing_found held shown ids x name f look other = by_found f.found refl look
+  where
+    by_found : (e : Found) → f.found ≡ e → IsLookAs held shown ids x name f.ids.items e → f.found ≡ found.Nothing
+    by_found found.Nothing is l = is
+    by_found (found.Node id y) is l = absurd (other id y is)
+    by_found (found.Stopped e) is l = absurd l
+
+-- ---- where a visit ends
+
+-- a visit that reached the parent stands there
+pub visit_parent : (held : Held) (shown : Shown) (caller : Caller) (path : Path) (v : Visit) (at : Parent) → IsVisitFor shown caller path v → AreLookedAt held shown v.ids → v.end ≡ end.Reached
+    → at.reads.items ≡ v.ids → at.id ≡ v.base.id → at.node ≡ v.base.node → path ≡ parent path ++ at.name.now ∷ [] → IsParent held shown caller path at
+visit_parent held shown caller path v at visited looked is reads id node named = record {
+  named = named;
+  is_parent = λ parts t stands agrees.
+      let visit = visited parts t stands agrees in
+      let passes : way_of t caller path ≡ reached = reached_way (way_of t caller path) (sym is ∙ visit.ends) in
+      record {
+        passes = passes;
+        read = ap (λ (l : List NodeId). numbers_of l) reads ∙ visit.read;
+        leads = ap (λ w. follow parts 0 (base_of path w)) (sym passes) ∙ visit.leads ∙ ap (λ (i : NodeId). Some i.0) (sym id);
+        there = ap (λ (i : NodeId). inode_at parts i.0) id ∙ visit.there ∙ ap Some (sym node);
+      };
+  looked = subst (λ (l : List NodeId). AreLookedAt held shown l) (sym reads) looked;
+}
+
+-- one that did not ends before it
+pub visit_stop : (held : Held) (shown : Shown) (caller : Caller) (path : Path) (v : Visit) (e : End) (ids : List NodeId) → IsVisitFor shown caller path v → AreLookedAt held shown v.ids → v.end ≡ e
+    → e ≢ end.Reached → ids ≡ v.ids → IsStop held shown caller path ids e
+visit_stop held shown caller path v e ids visited looked is other reads = record {
+  is_stop = λ parts t stands agrees.
       let visit = visited parts t stands agrees in
       let ends : e ≡ end_of (way_of t caller path) = sym is ∙ visit.ends in
-      let unreached : way_of t caller path ≢ reached = λ h. other (ends ∙ ap end_of h) in
-      record {
-        found_is = subst (λ (x : Found). IsFound t caller path x) (sym stops) (unreached, ends);
-        read = ap (λ (l : List NodeId). numbers_of l) same ∙ visit.read
-            ∙ sym (ap (ids_of parts) (nothing_more (way_of t caller path) (at t path) (read_on t caller path) unreached));
-      },
-  subst (λ (l : List NodeId). AreLookedAt held shown l) (sym same) looked,
-)
+      record { stops = λ h. other (ends ∙ ap end_of h); ends = ends; read = ap (λ (l : List NodeId). numbers_of l) reads ∙ visit.read };
+  looked = subst (λ (l : List NodeId). AreLookedAt held shown l) (sym reads) looked;
+}
+
+-- where the way ends before the parent that is what is found
+pub stopped_finds : (held : Held) (shown : Shown) (caller : Caller) (path : Path) (e : End) (f : Find) → IsStop held shown caller path f.ids.items e → f.found ≡ found.Stopped e
+    → IsFindFor shown caller path f
+stopped_finds held shown caller path e f is same parts t stands agrees =
+    let stop = is.is_stop parts t stands agrees in
+    record {
+      found_is = subst (λ (x : Found). IsFound t caller path x) (sym same) (stop.stops, stop.ends);
+      placed = subst (λ (x : Found). IsPlaced parts path x) (sym same) tt;
+      read = stop.read ∙ sym (ap (ids_of parts) (nothing_more (way_of t caller path) (at_path t path) (read_on t caller path) stop.stops));
+    }
   where
     nothing_more : (w : Way) (o : Option Node) (ps : List Path) → w ≢ reached → ps ++ last_read w path o ≡ ps
     nothing_more reached o ps un = absurd (un refl)
@@ -208,7 +235,7 @@ before_way held shown caller path n on = record {
   asks = on.asks;
   lacks = on.lacks;
   needed = λ parts t stands agrees.
-      lies_more parts n.stripe (read_on t caller path) (read_to t caller path) (λ p h. among_left p (read_on t caller path) (last_read (way_of t caller path) path (at t path)) h)
+      lies_more parts n.stripe (read_on t caller path) (read_to t caller path) (λ p h. among_left p (read_on t caller path) (last_read (way_of t caller path) path (at_path t path)) h)
       (on.needed parts t stands agrees);
 }
 

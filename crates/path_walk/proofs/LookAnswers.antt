@@ -53,7 +53,7 @@ module _ (t : Tree) (e : Entry) (p : Path) (some : Node → Outcome) (caller : C
 
   -- the step reads what is read to find the node, and then comes what was found
   pub found_is : (f : Found) → IsFound t caller p f → looks.found t e p some ≡ reading (read_to t caller p) (found_outcome p some f)
-  found_is (found.Node x) is = node_is (node_of x) is.0 is.1
+  found_is (found.Node id x) is = node_is (node_of x) is.0 is.1
   found_is found.Nothing is =
       the_way ∙ ap (λ w. reading (read_on t caller p) (ended (missing_below PathNotFound) PathNotFound (then_node (at t p)) w)) is.0
       ∙ ap (λ o. reading (read_on t caller p) (then_node o)) is.1

@@ -262,12 +262,3 @@ reached_ends parts t caller names ids i x is =
     drop_all : (xs : Path) → drop (length xs) xs ≡ []
     drop_all [] = refl
     drop_all (x ∷ xs) = drop_all xs
-
--- the names of the parent are the first ones of the path
-parent_takes : (n : List ℕ) (path : Path) → parent (n ∷ path) ≡ take (length path) (n ∷ path)
-parent_takes n [] = refl
-parent_takes n (k ∷ path) = ap (λ l. n ∷ l) (parent_takes k path)
-
-pub parent_take : (path : Path) → path ≢ [] → (m : ℕ) → m + 1 ≡ length path → take m path ≡ parent path
-parent_take [] some m e = absurd (some refl)
-parent_take (n ∷ path) some m e = ap (λ k. take k (n ∷ path)) (let h : m ≡ length path = omega arith in h) ∙ sym (parent_takes n path)

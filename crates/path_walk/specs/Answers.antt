@@ -35,6 +35,6 @@ pub record IsAnswered (close : Bool) (reply : Reply) (ids : List NodeId) (d : Dr
 
 -- what comes of a step that looks at the node of a path, by what was found there
 abbrev pub found_outcome : Path → (Node → Outcome) → Found → Outcome
-found_outcome p some (found.Node x) = some (node_of x)
+found_outcome p some (found.Node id x) = some (node_of x)
 found_outcome p some found.Nothing = refused (missing_code p PathNotFound)
 found_outcome p some (found.Stopped e) = answered (stop_reply PathNotFound e)

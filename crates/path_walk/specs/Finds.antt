@@ -8,7 +8,7 @@ use Rattle.inode_tree.specs.declared.id.NodeId.{NodeId}
 use Rattle.inode_tree.specs.declared.need.Need.{Need}
 use Rattle.inode_tree.specs.Inodes.{BareInode, node_of}
 use Rattle.inode_tree.specs.Footprints.{ids_of, lies_in}
-use Rattle.inode_tree.specs.Parts.{Parts, child_of}
+use Rattle.inode_tree.specs.Parts.{Parts, inode_at, follow, child_of}
 use Rattle.inode_tree.specs.Promises.{numbers_of}
 use Rattle.inode_tree.specs.Stands.{Stands}
 use Rattle.inode_tree.specs.Views.{Held, Shown, Agrees, covers, shown_at}
@@ -30,14 +30,26 @@ last_read (closed p refusal) path x = []
 abbrev pub read_to : Tree → Caller → Path → List Path
 read_to t caller path = read_on t caller path ++ last_read (way_of t caller path) path (at t path)
 
--- a node; nothing below the parent that was reached; or the end of a way that ended before
+-- a node with its id; nothing below the parent that was reached; or the end of a way that ended before
 abbrev pub IsFound : Tree → Caller → Path → Found → Type 0
-IsFound t caller path (found.Node x) = (way_of t caller path ≡ reached) × (at t path ≡ Some (node_of x))
+IsFound t caller path (found.Node id x) = (way_of t caller path ≡ reached) × (at t path ≡ Some (node_of x))
 IsFound t caller path found.Nothing = (way_of t caller path ≡ reached) × (at t path ≡ None)
 IsFound t caller path (found.Stopped e) = (way_of t caller path ≢ reached) × (e ≡ end_of (way_of t caller path))
 
+-- the path leads to this id, which has this inode
+pub record IsPlacedAt (parts : Parts) (path : Path) (id : ℕ) (x : BareInode) : Type 0 where
+  pub leads : follow parts 0 path ≡ Some id
+  pub there : inode_at parts id ≡ Some x
+
+-- so it is of a node that was found
+abbrev pub IsPlaced : Parts → Path → Found → Type 0
+IsPlaced parts path (found.Node id x) = IsPlacedAt parts path id.0 x
+IsPlaced parts path found.Nothing = Unit {0}
+IsPlaced parts path (found.Stopped e) = Unit {0}
+
 pub record IsFind (parts : Parts) (t : Tree) (caller : Caller) (path : Path) (f : Find) : Type 0 where
   pub found_is : IsFound t caller path f.found
+  pub placed : IsPlaced parts path f.found
   pub read : numbers_of f.ids.items ≡ ids_of parts (read_to t caller path)
 
 abbrev pub IsFindFor : Shown → Caller → Path → Find → Type 0
@@ -54,8 +66,8 @@ pub record IsNeedOfFind (held : Held) (shown : Shown) (caller : Caller) (path : 
 
 abbrev pub IsLookAs : Held → Shown → List NodeId → BareInode → List ℕ → List NodeId → Found → Type 0
 IsLookAs held shown ids x name after found.Nothing = (child_of x name ≡ None) × (after ≡ ids)
-IsLookAs held shown ids x name after (found.Node y) =
-    (c : NodeId) × (child_of x name ≡ Some c.0) × (shown_at shown c.0 ≡ Some y) × IsHeldAndShown held shown c.0 × (after ≡ ids ++ c ∷ [])
+IsLookAs held shown ids x name after (found.Node id y) =
+    (child_of x name ≡ Some id.0) × (shown_at shown id.0 ≡ Some y) × IsHeldAndShown held shown id.0 × (after ≡ ids ++ id ∷ [])
 IsLookAs held shown ids x name after (found.Stopped e) = ⊥
 
 -- a look at the child of a name of a directory, behind these ids

@@ -1,5 +1,11 @@
 pub mod Visits
 pub mod Trails
 pub mod Answers
+pub mod Parents
 pub mod Finds
 pub mod Holds
+pub mod Calls
+pub mod Edits
+pub mod Batches
+pub mod Settles
+pub mod Removals

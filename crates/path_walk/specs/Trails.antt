@@ -1,5 +1,5 @@
 -- A visit on its way: the nodes that were looked at so far, and the one that it has come to.
-use Rattle.std.specs.Prelude.{◌≡◌, ℕ, ◌+◌, List, [], ◌∷◌, ◌++◌, take, drop, Some}
+use Rattle.std.specs.Prelude.{◌≡◌, ℕ, List, [], ◌∷◌, ◌++◌, take, drop, Some}
 use Rattle.namespace_model.specs.declared.caller.Caller.{Caller}
 use Rattle.namespace_model.specs.Trees.{Path, Tree, parent}
 use Rattle.inode_tree.specs.declared.id.NodeId.{NodeId}
@@ -28,12 +28,12 @@ pub record IsAt (parts : Parts) (t : Tree) (caller : Caller) (names : Path) (k :
   pub so_far : ids_of parts ([] ∷ read_from t caller [] names) ≡ numbers_of ids ++ ids_of parts (read_from t caller (take k names) (drop k names))
 
 pub record IsTrail (held : Held) (shown : Shown) (caller : Caller) (names : Path) (k : ℕ) (trail : Trail) : Type 0 where
-  pub is_at : (parts : Parts) (t : Tree) → Stands parts t → Agrees shown parts → IsAt parts t caller names k trail.ids.items trail.base.0 trail.node
+  pub is_at : (parts : Parts) (t : Tree) → Stands parts t → Agrees shown parts → IsAt parts t caller names k trail.ids.items trail.base.id.0 trail.base.node
   pub looked : AreLookedAt held shown trail.ids.items
 
--- one name further, or at the end
+-- so many names further, or at the end
 abbrev pub IsStepped : Held → Shown → Caller → Path → ℕ → Step → Type 0
-IsStepped held shown caller path k (step.On trail) = IsTrail held shown caller (parent path) (k + 1) trail
+IsStepped held shown caller path k (step.On trail) = IsTrail held shown caller (parent path) k trail
 IsStepped held shown caller path k (step.Ended v) = IsVisitFor shown caller path v × AreLookedAt held shown v.ids
 
 -- a visit that ends with a trail: it stands at the trail's last directory
@@ -41,7 +41,6 @@ pub record IsEndedAt (trail : Trail) (ids : List NodeId) (e : End) (v : Visit) :
   pub ids_are : v.ids ≡ ids
   pub ends : v.end ≡ e
   pub base_is : v.base ≡ trail.base
-  pub node_is : v.node ≡ trail.node
 
 -- The trail or the visit behind what was met at the path of so many names, from a trail: the id that was met is the last one.
 abbrev pub IsTaken : Trail → Path → ℕ → Met → Step → Type 0
@@ -52,5 +51,5 @@ IsTaken trail path k (met.Blocked id) (step.Ended v) = IsEndedAt trail (trail.id
 IsTaken trail path k (met.Closed id refusal) (step.On next) = ⊥
 IsTaken trail path k (met.Closed id refusal) (step.Ended v) =
     IsEndedAt trail (trail.ids.items ++ id ∷ []) (end.Denied (record { rule = refusal.rule; at = take k path; want = 1; have = refusal.have })) v
-IsTaken trail path k (met.Passed id y) (step.On next) = (next.ids.items ≡ trail.ids.items ++ id ∷ []) × (next.base ≡ id) × (next.node ≡ y)
-IsTaken trail path k (met.Passed id y) (step.Ended v) = ⊥
+IsTaken trail path k (met.Passed base) (step.On next) = (next.ids.items ≡ trail.ids.items ++ base.id ∷ []) × (next.base ≡ base)
+IsTaken trail path k (met.Passed base) (step.Ended v) = ⊥

@@ -33,8 +33,8 @@ end_of (closed p refusal) = end.Denied (record { rule = refusal.rule; at = p; wa
 pub record IsVisit (parts : Parts) (t : Tree) (caller : Caller) (path : Path) (v : Visit) : Type 0 where
   pub ends : v.end ≡ end_of (way_of t caller path)
   pub read : numbers_of v.ids ≡ ids_of parts (read_on t caller path)
-  pub leads : follow parts 0 (base_of path (way_of t caller path)) ≡ Some v.base.0
-  pub there : inode_at parts v.base.0 ≡ Some v.node
+  pub leads : follow parts 0 (base_of path (way_of t caller path)) ≡ Some v.base.id.0
+  pub there : inode_at parts v.base.id.0 ≡ Some v.base.node
 
 -- for all parts that stand for a tree and agree with what was shown
 abbrev pub IsVisitFor : Shown → Caller → Path → Visit → Type 0
@@ -59,8 +59,8 @@ IsMet shown caller x name met.Missing = child_of x name ≡ None
 IsMet shown caller x name (met.Blocked id) = (y : BareInode) × (child_of x name ≡ Some id.0) × (shown_at shown id.0 ≡ Some y) × (is_directory (node_of y) ≡ false)
 IsMet shown caller x name (met.Closed id refusal) =
     (y : BareInode) × (child_of x name ≡ Some id.0) × (shown_at shown id.0 ≡ Some y) × (is_directory (node_of y) ≡ true) × (may_enter caller (node_of y) ≡ Err refusal)
-IsMet shown caller x name (met.Passed id y) =
-    (child_of x name ≡ Some id.0) × (shown_at shown id.0 ≡ Some y) × (is_directory (node_of y) ≡ true) × (may_enter caller (node_of y) ≡ Ok tt)
+IsMet shown caller x name (met.Passed base) =
+    (child_of x name ≡ Some base.id.0) × (shown_at shown base.id.0 ≡ Some base.node) × (is_directory (node_of base.node) ≡ true) × (may_enter caller (node_of base.node) ≡ Ok tt)
 
 abbrev pub IsHeldAndShown : Held → Shown → ℕ → Type 0
 IsHeldAndShown held shown id = (covers (held (id % 64)) Shared ≡ true) × IsSome (shown (id % 64))
@@ -70,7 +70,7 @@ abbrev pub IsMetUnderHold : Held → Shown → Met → Type 0
 IsMetUnderHold held shown met.Missing = Unit {0}
 IsMetUnderHold held shown (met.Blocked id) = IsHeldAndShown held shown id.0
 IsMetUnderHold held shown (met.Closed id refusal) = IsHeldAndShown held shown id.0
-IsMetUnderHold held shown (met.Passed id y) = IsHeldAndShown held shown id.0
+IsMetUnderHold held shown (met.Passed base) = IsHeldAndShown held shown base.id.0
 
 -- the child of the name lies in a stripe that isn't held
 pub record NeedsChild (held : Held) (x : BareInode) (name : List ℕ) (n : Need) : Type 0 where

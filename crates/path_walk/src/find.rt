@@ -1,17 +1,16 @@
 ghost use Rattle.std.specs.Prelude.{◌≡◌, ◌≢◌, ℕ, [], Some, Err, IfOk};
-ghost use Rattle.inode_tree.specs.Views.{Grows, IsKnown};
+ghost use Rattle.inode_tree.specs.Views.{IsKnown};
 ghost use Rattle.inode_tree.specs.Parts.{child_of};
 ghost use Rattle.inode_tree.specs.declared.draft.EvalStop.TheVariants as stop;
 ghost use Rattle.inode_tree.specs.declared.need.Need.{Need};
-ghost use Rattle.path_walk.specs.declared.find.Found.TheVariants as found;
+ghost use Rattle.path_walk.specs.Calls.{GoesOn};
 ghost use Rattle.path_walk.specs.Finds.{IsFindFor, IsNeedOfFind, IsLook};
 ghost use Rattle.path_walk.specs.Visits.{AreLookedAt, NeedsChild};
 
 use super::look::child_of;
-use super::names::part_names;
-use super::stop::{End, Visit};
-use super::way::visit;
-use inode_tree::{EvalStop, NodeId, NodeIds, NodeRef, View};
+use super::parent::{Entered, enter};
+use super::stop::End;
+use inode_tree::{EvalStop, NodeId, NodeRef, View};
 use lock_core::LockMode;
 use namespace_model::Caller;
 use path_text::{Name, Path};
@@ -20,8 +19,8 @@ use std::alloc::Global;
 /// What stands at a path.
 #[derive(Drop)]
 pub enum Found {
-    /// This node.
-    Node(NodeRef),
+    /// The node of this id.
+    Node(NodeId, NodeRef),
     /// Nothing, below a directory that is there.
     Nothing,
     /// The way to the parent ends before.
@@ -46,32 +45,18 @@ pub fn look_up<V: View>(
     caller: &Caller,
 ) -> Result<Find, EvalStop>
     requires below { path.now ≢ [] }
-    ensures held { V.held view.new ≡ V.held view.old }
-    ensures over { V.over view.new ≡ V.over view.old }
-    ensures grows { Grows (V.shown view.old) (V.shown view.new) }
+    ensures on { GoesOn (V.held view.old) (V.held view.new) (V.over view.old) (V.over view.new) (V.shown view.old) (V.shown view.new) }
     ensures found { IfOk result (λ f. IsFindFor (V.shown view.new) caller.now path.now f) }
-    ensures looked { IfOk result (λ f. AreLookedAt (V.held view.old) (V.shown view.new) f.ids.items) }
-    ensures need { (n : Need) → result ≡ Err (stop.Need n) → IsNeedOfFind (V.held view.old) (V.shown view.new) caller.now path.now n }
+    ensures looked { IfOk result (λ f. AreLookedAt (V.held view.new) (V.shown view.new) f.ids.items) }
+    ensures need { (n : Need) → result ≡ Err (stop.Need n) → IsNeedOfFind (V.held view.new) (V.shown view.new) caller.now path.now n }
 {
-    let parts = part_names(alloc, path)?;
-    let names = parts.as_slice();
-    match visit(alloc, view, path, caller) {
-        Ok(Visit { ids, node, end, .. }) => match end {
-            End::Reached => look_below(view, ids.into_items(), &node, &names[names.len() - 1]),
-            end => Ok(stopped(ids, end)),
-        },
+    match enter(alloc, view, path, caller) {
+        Ok(Entered::At(at)) => look_below(view, at.reads, &at.node, at.name),
+        Ok(Entered::Ended(ids, end)) => Ok(Find {
+            ids,
+            found: Found::Stopped(end),
+        }),
         Err(stop) => Err(stop),
-    }
-}
-
-// The end of a way that ends before the parent.
-fn stopped(ids: NodeIds, end: End) -> Find
-    ensures ids { result.ids.items ≡ ids }
-    ensures found { result.found ≡ found.Stopped end }
-{
-    Find {
-        ids: ids.into_items(),
-        found: Found::Stopped(end),
     }
 }
 
@@ -84,11 +69,9 @@ pub fn look_below<V: View>(
     name: &Name,
 ) -> Result<Find, EvalStop>
     requires known { (child : ℕ) → child_of node.now name.now ≡ Some child → IsKnown (V.shown view.old) child }
-    ensures held { V.held view.new ≡ V.held view.old }
-    ensures over { V.over view.new ≡ V.over view.old }
-    ensures grows { Grows (V.shown view.old) (V.shown view.new) }
-    ensures look { IfOk result (λ f. IsLook (V.held view.old) (V.shown view.new) ids.items node.now name.now f) }
-    ensures need { (n : Need) → result ≡ Err (stop.Need n) → NeedsChild (V.held view.old) node.now name.now n }
+    ensures on { GoesOn (V.held view.old) (V.held view.new) (V.over view.old) (V.over view.new) (V.shown view.old) (V.shown view.new) }
+    ensures look { IfOk result (λ f. IsLook (V.held view.new) (V.shown view.new) ids.items node.now name.now f) }
+    ensures need { (n : Need) → result ≡ Err (stop.Need n) → NeedsChild (V.held view.new) node.now name.now n }
 {
     match child_of(node, name) {
         None => Ok(Find {
@@ -100,7 +83,7 @@ pub fn look_below<V: View>(
             ids.push(id)?;
             Ok(Find {
                 ids,
-                found: Found::Node(child),
+                found: Found::Node(id, child),
             })
         }
     }

@@ -14,15 +14,22 @@ pub enum End {
     Denied(Denied),
 }
 
+/// A directory that was passed, or the account.
+#[derive(Drop)]
+pub struct Base {
+    /// Its id.
+    pub id: NodeId,
+    /// The look at it.
+    pub node: NodeRef,
+}
+
 /// The way to the parent of a path, as far as it goes.
 #[derive(Drop)]
 pub struct Visit {
     /// The nodes of the way that were looked at, from the account on.
     pub ids: NodeIds,
     /// The last directory that was passed.
-    pub base: NodeId,
-    /// The look at it.
-    pub node: NodeRef,
+    pub base: Base,
     /// How the way ends.
     pub end: End,
 }

@@ -1,16 +1,16 @@
-ghost use Rattle.std.specs.Prelude.{◌≡◌, ◌≢◌, ◌≤◌, ◌+◌, ℕ, [], length, Some, Err, IfOk, slice_get};
-ghost use Rattle.inode_tree.specs.Views.{Grows, IsKnown};
+ghost use Rattle.std.specs.Prelude.{◌≡◌, ◌≢◌, ◌≤◌, ◌<◌, ◌-◌, ℕ, [], length, Some, Err, IfOk};
+ghost use Rattle.inode_tree.specs.Views.{IsKnown};
 ghost use Rattle.inode_tree.specs.Parts.{child_of};
 ghost use Rattle.inode_tree.specs.declared.draft.EvalStop.TheVariants as stop;
 ghost use Rattle.inode_tree.specs.declared.need.Need.{Need};
 ghost use Rattle.namespace_model.specs.Trees.{parent};
 ghost use Rattle.path_walk.specs.declared.stop.End.TheVariants as end;
+ghost use Rattle.path_walk.specs.Calls.{GoesOn};
 ghost use Rattle.path_walk.specs.Trails.{IsTrail, IsStepped, IsTaken, IsEndedAt};
 ghost use Rattle.path_walk.specs.Visits.{IsVisitFor, AreLookedAt, IsOnTheWay, IsMet, IsMetUnderHold, NeedsChild, IsWalked};
 
 use super::look::{child_of, is_directory, may_enter};
-use super::names::part_names;
-use super::stop::{End, Visit, Walk, WalkStop};
+use super::stop::{Base, End, Visit, Walk, WalkStop};
 use acl_text::Perm;
 use inode_tree::{EvalStop, NodeId, NodeIds, NodeRef, View};
 use lock_core::LockMode;
@@ -28,15 +28,14 @@ pub(crate) enum Met {
     // A directory that doesn't let the caller through.
     Closed(NodeId, Refusal),
     // One that does.
-    Passed(NodeId, NodeRef),
+    Passed(Base),
 }
 
 // A visit on its way: the nodes that were looked at so far, and the last of them.
 #[derive(Drop)]
 pub(crate) struct Trail {
     ids: Vec<NodeId>,
-    base: NodeId,
-    node: NodeRef,
+    base: Base,
 }
 
 #[derive(Drop)]
@@ -54,21 +53,23 @@ pub fn visit<V: View>(
     caller: &Caller,
 ) -> Result<Visit, EvalStop>
     requires below { path.now ≢ [] }
-    ensures held { V.held view.new ≡ V.held view.old }
-    ensures over { V.over view.new ≡ V.over view.old }
-    ensures grows { Grows (V.shown view.old) (V.shown view.new) }
+    ensures on { GoesOn (V.held view.old) (V.held view.new) (V.over view.old) (V.over view.new) (V.shown view.old) (V.shown view.new) }
     ensures visited { IfOk result (λ v. IsVisitFor (V.shown view.new) caller.now path.now v) }
-    ensures looked { IfOk result (λ v. AreLookedAt (V.held view.old) (V.shown view.new) v.ids) }
-    ensures need { (n : Need) → result ≡ Err (stop.Need n) → IsOnTheWay (V.held view.old) (V.shown view.new) caller.now path.now n }
+    ensures looked { IfOk result (λ v. AreLookedAt (V.held view.new) (V.shown view.new) v.ids) }
+    ensures need { (n : Need) → result ≡ Err (stop.Need n) → IsOnTheWay (V.held view.new) (V.shown view.new) caller.now path.now n }
 {
-    let names = part_names(alloc, path)?;
-    follow(
-        alloc,
-        view,
-        &names.as_slice()[..names.len() - 1],
-        path,
-        caller,
-    )
+    let mut trail = match start(alloc, view, path, caller) {
+        Ok(trail) => trail,
+        Err(stop) => return Err(stop),
+    };
+    for place in 0..path.depth() - 1 {
+        match advance(alloc, view, trail, path, place + 1, caller) {
+            Ok(Step::On(next)) => trail = next,
+            Ok(Step::Ended(visit)) => return Ok(visit),
+            Err(stop) => return Err(stop),
+        }
+    }
+    Ok(ended(trail, End::Reached))
 }
 
 /// The ids from the account to the parent of a path, which is not the account's; else why the way to it ends before. Each node of
@@ -81,10 +82,8 @@ pub fn walk<V: View>(
     caller: &Caller,
 ) -> Result<Walk, WalkStop>
     requires below { path.now ≢ [] }
-    ensures held { V.held view.new ≡ V.held view.old }
-    ensures over { V.over view.new ≡ V.over view.old }
-    ensures grows { Grows (V.shown view.old) (V.shown view.new) }
-    ensures walked { IsWalked (V.held view.old) (V.shown view.new) caller.now path.now result }
+    ensures on { GoesOn (V.held view.old) (V.held view.new) (V.over view.old) (V.over view.new) (V.shown view.old) (V.shown view.new) }
+    ensures walked { IsWalked (V.held view.new) (V.shown view.new) caller.now path.now result }
 {
     match visit(alloc, view, path, caller) {
         Ok(Visit { ids, end, .. }) => match end {
@@ -98,36 +97,6 @@ pub fn walk<V: View>(
     }
 }
 
-// The way along the names of a path's parent.
-fn follow<V: View>(
-    alloc: Global,
-    view: &mut V,
-    names: &[Name],
-    path: &Path,
-    caller: &Caller,
-) -> Result<Visit, EvalStop>
-    requires below { path.now ≢ [] }
-    requires names { names.now ≡ parent path.now }
-    ensures held { V.held view.new ≡ V.held view.old }
-    ensures over { V.over view.new ≡ V.over view.old }
-    ensures grows { Grows (V.shown view.old) (V.shown view.new) }
-    ensures visited { IfOk result (λ v. IsVisitFor (V.shown view.new) caller.now path.now v × AreLookedAt (V.held view.old) (V.shown view.new) v.ids) }
-    ensures need { (n : Need) → result ≡ Err (stop.Need n) → IsOnTheWay (V.held view.old) (V.shown view.new) caller.now path.now n }
-{
-    let mut trail = match start(alloc, view, path, caller) {
-        Ok(trail) => trail,
-        Err(stop) => return Err(stop),
-    };
-    for i in 0..names.len() {
-        match advance(alloc, view, trail, path, i, i + 1, &names[i], caller) {
-            Ok(Step::On(next)) => trail = next,
-            Ok(Step::Ended(visit)) => return Ok(visit),
-            Err(stop) => return Err(stop),
-        }
-    }
-    Ok(ended(trail, End::Reached))
-}
-
 // The account.
 fn start<V: View>(
     alloc: Global,
@@ -135,43 +104,39 @@ fn start<V: View>(
     path: &Path,
     caller: &Caller,
 ) -> Result<Trail, EvalStop>
-    ensures held { V.held view.new ≡ V.held view.old }
-    ensures over { V.over view.new ≡ V.over view.old }
-    ensures grows { Grows (V.shown view.old) (V.shown view.new) }
-    ensures trail { IfOk result (λ trail. IsTrail (V.held view.old) (V.shown view.new) caller.now (parent path.now) 0 trail) }
-    ensures need { (n : Need) → result ≡ Err (stop.Need n) → IsOnTheWay (V.held view.old) (V.shown view.new) caller.now path.now n }
+    ensures on { GoesOn (V.held view.old) (V.held view.new) (V.over view.old) (V.over view.new) (V.shown view.old) (V.shown view.new) }
+    ensures trail { IfOk result (λ trail. IsTrail (V.held view.new) (V.shown view.new) caller.now (parent path.now) 0 trail) }
+    ensures need { (n : Need) → result ≡ Err (stop.Need n) → IsOnTheWay (V.held view.new) (V.shown view.new) caller.now path.now n }
 {
     let mut ids = Vec::new(alloc);
     ids.push(NodeId(0))?;
     let node = view.get(NodeId(0), LockMode::Shared)?;
     Ok(Trail {
         ids,
-        base: NodeId(0),
-        node,
+        base: Base {
+            id: NodeId(0),
+            node,
+        },
     })
 }
 
-// The next name of the way.
+// The next name of the way, the last of so many.
 fn advance<V: View>(
     alloc: Global,
     view: &mut V,
     trail: Trail,
     path: &Path,
-    place: usize,
     depth: usize,
-    name: &Name,
     caller: &Caller,
 ) -> Result<Step, EvalStop>
-    requires depth { depth ≡ place + 1 }
-    requires trail { IsTrail (V.held view.old) (V.shown view.old) caller.now (parent path.now) place trail }
-    requires name { slice_get (parent path.now) place ≡ Some name.now }
-    ensures held { V.held view.new ≡ V.held view.old }
-    ensures over { V.over view.new ≡ V.over view.old }
-    ensures grows { Grows (V.shown view.old) (V.shown view.new) }
-    ensures stepped { IfOk result (λ step. IsStepped (V.held view.old) (V.shown view.new) caller.now path.now place step) }
-    ensures need { (n : Need) → result ≡ Err (stop.Need n) → IsOnTheWay (V.held view.old) (V.shown view.new) caller.now path.now n }
+    requires some { 1 ≤ depth }
+    requires below { depth < length path.now }
+    requires trail { IsTrail (V.held view.old) (V.shown view.old) caller.now (parent path.now) (depth - 1) trail }
+    ensures on { GoesOn (V.held view.old) (V.held view.new) (V.over view.old) (V.over view.new) (V.shown view.old) (V.shown view.new) }
+    ensures stepped { IfOk result (λ step. IsStepped (V.held view.new) (V.shown view.new) caller.now path.now depth step) }
+    ensures need { (n : Need) → result ≡ Err (stop.Need n) → IsOnTheWay (V.held view.new) (V.shown view.new) caller.now path.now n }
 {
-    match meet(view, &trail.node, name, caller) {
+    match meet(view, &trail.base.node, path.part(depth - 1), caller) {
         Ok(met) => Ok(taken(alloc, trail, met, path, depth)?),
         Err(stop) => Err(stop),
     }
@@ -199,14 +164,10 @@ fn taken(
             let at = path.front(alloc, depth)?;
             Ok(Step::Ended(ended(trail, denied(at, refusal))))
         }
-        Met::Passed(id, node) => {
+        Met::Passed(base) => {
             let mut ids = trail.ids;
-            ids.push(id)?;
-            Ok(Step::On(Trail {
-                ids,
-                base: id,
-                node,
-            }))
+            ids.push(base.id)?;
+            Ok(Step::On(Trail { ids, base }))
         }
     }
 }
@@ -217,7 +178,6 @@ fn ended(trail: Trail, end: End) -> Visit
     Visit {
         ids: NodeIds::new(trail.ids),
         base: trail.base,
-        node: trail.node,
         end,
     }
 }
@@ -242,12 +202,10 @@ fn meet<V: View>(
     caller: &Caller,
 ) -> Result<Met, EvalStop>
     requires known { (child : ℕ) → child_of node.now name.now ≡ Some child → IsKnown (V.shown view.old) child }
-    ensures held { V.held view.new ≡ V.held view.old }
-    ensures over { V.over view.new ≡ V.over view.old }
-    ensures grows { Grows (V.shown view.old) (V.shown view.new) }
+    ensures on { GoesOn (V.held view.old) (V.held view.new) (V.over view.old) (V.over view.new) (V.shown view.old) (V.shown view.new) }
     ensures met { IfOk result (λ m. IsMet (V.shown view.new) caller.now node.now name.now m) }
-    ensures looked { IfOk result (λ m. IsMetUnderHold (V.held view.old) (V.shown view.new) m) }
-    ensures need { (n : Need) → result ≡ Err (stop.Need n) → NeedsChild (V.held view.old) node.now name.now n }
+    ensures looked { IfOk result (λ m. IsMetUnderHold (V.held view.new) (V.shown view.new) m) }
+    ensures need { (n : Need) → result ≡ Err (stop.Need n) → NeedsChild (V.held view.new) node.now name.now n }
 {
     let Some(id) = child_of(node, name) else {
         return Ok(Met::Missing);
@@ -257,7 +215,7 @@ fn meet<V: View>(
         return Ok(Met::Blocked(id));
     }
     match may_enter(&next, caller) {
-        Ok(()) => Ok(Met::Passed(id, next)),
+        Ok(()) => Ok(Met::Passed(Base { id, node: next })),
         Err(refusal) => Ok(Met::Closed(id, refusal)),
     }
 }

@@ -1,30 +1,36 @@
-use Rattle.std.proofs.Common.{true, ◌++◌, Err, refl, ap, sym, subst, ◌∙◌}
-use Rattle.inode_tree.specs.Promises.{IsEvaluated}
-use Rattle.op_delete.specs.Removals.{IsRemoval}
-use Rattle.op_delete.proofs.TargetLemmas.{all_below, below_needed, stopped_by}
+use Rattle.std.proofs.Common.{true, ◌++◌, Err, refl, ap, ◌∙◌}
+use Rattle.path_walk.proofs.CallAnswers.{stopped_by}
+use Rattle.op_delete.proofs.ClearLemmas.{is_none}
+use Rattle.op_delete.proofs.DeleteAnswers.{some_path, is_top, target_later, below_needed, all_looked, below_answer, all_below}
 use Rattle.op_delete.proofs.eval.clear.Goals as goal
 
-pub collect-requires : goal.collect-requires
-collect-requires g c = record { rooted = λ parts t stands agrees. (c.args.path.now, (c.requires.target.is_target parts t stands agrees).leads) }
+pub look_through-requires-clause-below : goal.look_through-requires-clause-below
+look_through-requires-clause-below g c = some_path c.args.call.now c.requires.call true c.requires.operation
 
-pub remove-requires-clause-removal : goal.remove-requires-clause-removal
-remove-requires-clause-removal g c =
-    subst (λ h. IsRemoval h (g.V.View.shown c.collect.new.view) c.args.request.now c.args.moment c.args.path.now (record {
-      reads = c.extend_from_slice.new.self;
-      base = c.args.target.base;
-      name = c.args.target.name;
-      id = c.args.target.id;
-    }) c.in-Ok.taken.items) (sym c.collect.ensures.held)
-    (all_below c.args.request.now c.args.path.now true c.requires.operation c.requires.plain (g.V.View.held c.args.view.now) (g.V.View.shown c.args.view.now) (g.V.View.shown c.collect.new.view) c.args.node.now c.args.target
-    c.collect.ensures.grows c.requires.target c.args.moment c.requires.free refl _ c.in-Ok.taken.items c.requires.sound c.in-Ok.ensures.collected c.in-Ok.ensures.looked
-    (c.in_ok-extend_from_slice-in-Ok.ensures.items ∙ ap (λ l. c.args.target.reads.items ++ l) c.as_slice.ensures.value) refl refl refl)
+pub look_through-requires-clause-top : goal.look_through-requires-clause-top
+look_through-requires-clause-top g c = is_top c.args.call.now c.requires.call true c.requires.operation (g.V.View.held c.args.view.now) (g.V.View.shown c.args.view.now) c.args.target c.requires.target
 
-pub returns-in_ok-extend_from_slice-in-Ok-clause-evaluated : goal.returns-in_ok-extend_from_slice-in-Ok-clause-evaluated
-returns-in_ok-extend_from_slice-in-Ok-clause-evaluated g c = λ fresh.
-    subst (λ h. IsEvaluated h (g.V.View.shown c.collect.new.view) c.args.request.now c.args.moment fresh c.remove.result) c.collect.ensures.held (c.remove.ensures fresh)
+pub look_through-requires-clause-looked : goal.look_through-requires-clause-looked
+look_through-requires-clause-looked g c = c.requires.target.top_looked
+
+pub returns-in-Some-clause-evaluated : goal.returns-in-Some-clause-evaluated
+returns-in-Some-clause-evaluated g c =
+    below_answer c.args.call.now c.requires.call true c.requires.operation (g.V.View.held c.look_through.new.view) (g.V.View.shown c.look_through.new.view) c.args.target (target_later c.look_through.ensures.on c.args.call.now c.args.target c.requires.target)
+    c.requires.passed refl c.in-Ok.field-0 c.in-Ok.ensures.cleared _ (c.in_ok-extend_from_slice-in-Ok.ensures.items ∙ ap (λ l. c.args.target.reads.items ++ l) c.as_slice.ensures.value) c.in-Some.reply _ c.in-Some.is
+    c.in_ok-answered-in-Ok.ensures
+
+pub take_away-requires-clause-looked : goal.take_away-requires-clause-looked
+take_away-requires-clause-looked g c =
+    all_looked c.args.call.now c.requires.call true c.requires.operation (g.V.View.held c.look_through.new.view) (g.V.View.shown c.look_through.new.view) c.args.target (target_later c.look_through.ensures.on c.args.call.now c.args.target c.requires.target)
+    c.requires.passed refl c.in-Ok.field-0 c.in-Ok.ensures.cleared _ (c.in_ok-extend_from_slice-in-Ok.ensures.items ∙ ap (λ l. c.args.target.reads.items ++ l) c.as_slice.ensures.value)
+
+pub take_away-requires-clause-removal : goal.take_away-requires-clause-removal
+take_away-requires-clause-removal g c =
+    all_below c.args.call.now c.requires.call true c.requires.operation (g.V.View.held c.look_through.new.view) (g.V.View.shown c.look_through.new.view) c.args.target (target_later c.look_through.ensures.on c.args.call.now c.args.target c.requires.target)
+    c.requires.passed refl c.in-Ok.field-0 c.in-Ok.ensures.cleared _ (c.in_ok-extend_from_slice-in-Ok.ensures.items ∙ ap (λ l. c.args.target.reads.items ++ l) c.as_slice.ensures.value) (is_none _ c.in_default.not-Some) _ refl c.in_ok-copy-in-Ok.ensures refl
 
 pub returns-in-Err-clause-evaluated : goal.returns-in-Err-clause-evaluated
-returns-in-Err-clause-evaluated g c = λ fresh.
-    stopped_by (g.V.View.held c.args.view.now) (g.V.View.shown c.collect.new.view) c.args.request.now c.args.moment fresh c.in-Err.stop (λ n e.
-    below_needed c.args.request.now c.args.path.now true c.requires.operation c.requires.plain (g.V.View.held c.args.view.now) (g.V.View.shown c.args.view.now) (g.V.View.shown c.collect.new.view) c.args.node.now c.args.target
-    c.collect.ensures.grows c.requires.target c.args.moment c.requires.free refl fresh n (c.in-Err.ensures.need n (ap Err e)))
+returns-in-Err-clause-evaluated g c =
+    stopped_by (g.V.View.held c.look_through.new.view) (g.V.View.shown c.look_through.new.view) c.args.call.now c.in-Err.stop (λ n e.
+    below_needed c.args.call.now c.requires.call true c.requires.operation (g.V.View.held c.look_through.new.view) (g.V.View.shown c.look_through.new.view) c.args.target (target_later c.look_through.ensures.on c.args.call.now c.args.target c.requires.target)
+    c.requires.passed refl n (c.in-Err.ensures.need n (ap Err e)))

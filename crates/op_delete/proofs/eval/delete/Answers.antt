@@ -1,42 +1,30 @@
-use Rattle.std.proofs.Common.{Err, refl, ap, sym, subst}
-use Rattle.inode_tree.specs.Promises.{IsEvaluated}
+use Rattle.std.proofs.Common.{Err, ap, subst}
+use Rattle.namespace_model.specs.declared.code.Code.TheVariants.{PathNotFound}
 use Rattle.path_walk.specs.Answers.{IsAnswered}
-use Rattle.path_walk.specs.Visits.{IsVisitFor, AreLookedAt, IsOnTheWay}
-use Rattle.op_delete.proofs.ParentLemmas.{reached_visit}
-use Rattle.op_delete.proofs.TargetLemmas.{caller_is, stopped_draft, way_needed, stopped_by}
+use Rattle.path_walk.specs.Parents.{IsEntered}
+use Rattle.path_walk.proofs.CallAnswers.{stopped_by, stop_answer, walk_need}
+use Rattle.path_walk.proofs.CallLemmas.{on_both}
+use Rattle.op_delete.proofs.DeleteAnswers.{some_path, walks}
 use Rattle.op_delete.proofs.eval.delete.Goals as goal
 
+pub enter-requires : goal.enter-requires
+enter-requires g c = record { below = some_path c.args.call.now c.requires.call c.args.recursive c.requires.operation }
+
 pub delete_in-requires-clause-parent : goal.delete_in-requires-clause-parent
-delete_in-requires-clause-parent g c = record {
-  visited = reached_visit (g.V.View.shown c.visit.new.view) c.args.caller.now c.args.path.now c.in-Ok.field-0
-      (caller_is c.args.request.now c.args.path.now c.args.recursive c.requires.operation c.requires.plain c.args.caller.now c.requires.caller) c.in-Reached.is c.in-Ok.ensures.visited;
-  looked = subst (λ h. AreLookedAt h (g.V.View.shown c.visit.new.view) c.in-Ok.field-0.ids) (sym c.visit.ensures.held) c.in-Ok.ensures.looked;
-}
+delete_in-requires-clause-parent g c =
+    subst (λ e. IsEntered (g.V.View.held c.enter.new.view) (g.V.View.shown c.enter.new.view) c.args.call.now.caller.now c.args.call.now.path.now e) c.in-Ok-At.field-0-is c.in-Ok-At.ensures.entered
 
-pub returns-in-Reached-clause-grows : goal.returns-in-Reached-clause-grows
-returns-in-Reached-clause-grows g c = λ stripe part e. c.delete_in.ensures.grows stripe part (c.visit.ensures.grows stripe part e)
+pub returns-in-Ok-At-clause-on : goal.returns-in-Ok-At-clause-on
+returns-in-Ok-At-clause-on g c = on_both c.enter.ensures.on c.delete_in.ensures.on
 
-pub returns-in-Reached-clause-evaluated : goal.returns-in-Reached-clause-evaluated
-returns-in-Reached-clause-evaluated g c = λ fresh.
-    subst (λ h. IsEvaluated h (g.V.View.shown c.delete_in.new.view) c.args.request.now c.args.moment fresh c.delete_in.result) c.visit.ensures.held (c.delete_in.ensures.evaluated fresh)
+pub returns-in_ok-answered-in-Ok-Ended-clause-evaluated : goal.returns-in_ok-answered-in-Ok-Ended-clause-evaluated
+returns-in_ok-answered-in-Ok-Ended-clause-evaluated g c =
+    stop_answer (g.V.View.held c.enter.new.view) (g.V.View.shown c.enter.new.view) c.args.call.now c.args.call.now.caller.now c.args.call.now.path.now PathNotFound c.in-Ok-Ended.ids.items c.in-Ok-Ended.end c.in_ok-answered-in-Ok-Ended.field-0 c.requires.call
+    (subst (λ e. IsEntered (g.V.View.held c.enter.new.view) (g.V.View.shown c.enter.new.view) c.args.call.now.caller.now c.args.call.now.path.now e) c.in-Ok-Ended.field-0-is c.in-Ok-Ended.ensures.entered)
+    (subst (λ r. IsAnswered c.args.call.now.request.now.close r c.in-Ok-Ended.ids.items c.in_ok-answered-in-Ok-Ended.field-0) c.stop_reply.ensures c.in_ok-answered-in-Ok-Ended.ensures)
+    (walks c.args.call.now c.requires.call c.args.recursive c.requires.operation)
 
-pub returns-in-Ok : goal.returns-in-Ok
-returns-in-Ok g c = record {
-  held = c.visit.ensures.held;
-  over = c.visit.ensures.over;
-  grows = c.visit.ensures.grows;
-  evaluated = λ fresh.
-      stopped_draft c.args.request.now c.args.path.now c.args.recursive c.requires.operation c.requires.plain (g.V.View.held c.args.view.now) (g.V.View.shown c.visit.new.view) c.args.moment fresh c.in-Ok.field-0
-      c.in-Ok.field-0.end c.into_items.result.items c.in_ok-answered-in_default.field-0 c.requires.sound
-      (subst (λ k. IsVisitFor (g.V.View.shown c.visit.new.view) k c.args.path.now c.in-Ok.field-0)
-      (caller_is c.args.request.now c.args.path.now c.args.recursive c.requires.operation c.requires.plain c.args.caller.now c.requires.caller) c.in-Ok.ensures.visited)
-      c.in-Ok.ensures.looked refl c.in_default.not-Reached c.into_items.ensures
-      (subst (λ r. IsAnswered c.args.request.now.close r c.into_items.result.items c.in_ok-answered-in_default.field-0) c.stop_reply.ensures c.in_ok-answered-in_default.ensures);
-}
-
-pub returns-clause-evaluated : goal.returns-clause-evaluated
-returns-clause-evaluated g c = λ fresh.
-    stopped_by (g.V.View.held c.args.view.now) (g.V.View.shown c.visit.new.view) c.args.request.now c.args.moment fresh c.in-Err.stop (λ n e.
-    way_needed c.args.request.now c.args.path.now c.args.recursive c.requires.operation c.requires.plain (g.V.View.held c.args.view.now) (g.V.View.shown c.visit.new.view) c.args.moment fresh n
-    (subst (λ k. IsOnTheWay (g.V.View.held c.args.view.now) (g.V.View.shown c.visit.new.view) k c.args.path.now n)
-    (caller_is c.args.request.now c.args.path.now c.args.recursive c.requires.operation c.requires.plain c.args.caller.now c.requires.caller) (c.in-Err.ensures.need n (ap Err e))))
+pub returns-in-Err-clause-evaluated : goal.returns-in-Err-clause-evaluated
+returns-in-Err-clause-evaluated g c =
+    stopped_by (g.V.View.held c.enter.new.view) (g.V.View.shown c.enter.new.view) c.args.call.now c.in-Err.stop (λ n e.
+    walk_need (g.V.View.held c.enter.new.view) (g.V.View.shown c.enter.new.view) c.args.call.now c.args.call.now.caller.now c.args.call.now.path.now PathNotFound n (c.in-Err.ensures.need n (ap Err e)) (walks c.args.call.now c.requires.call c.args.recursive c.requires.operation))

@@ -1,24 +1,25 @@
-use Rattle.std.proofs.Common.{[], ◌∷◌, ◌++◌, ap, sym, subst, ◌∙◌}
-use Rattle.path_walk.specs.Answers.{IsAnswered}
-use Rattle.op_delete.specs.Removals.{IsRemoval}
-use Rattle.op_delete.proofs.TargetLemmas.{leased_draft, not_empty_draft, alone}
+use Rattle.std.proofs.Common.{◌≡◌, None, [], ◌∷◌, ◌++◌, refl, ap, sym, subst, ◌∙◌}
+use Rattle.namespace_model.specs.declared.op.Op.TheVariants as op
+use Rattle.op_delete.specs.Deletes.{refusal_of}
+use Rattle.op_delete.proofs.ClearLemmas.{is_none}
+use Rattle.op_delete.proofs.DeleteAnswers.{refused_answer, alone}
 use Rattle.op_delete.proofs.eval.delete_node.Goals as goal
 
-pub returns-then-is_leased-clause-evaluated : goal.returns-then-is_leased-clause-evaluated
-returns-then-is_leased-clause-evaluated g c = λ fresh.
-    leased_draft c.args.request.now c.args.path.now c.args.recursive c.requires.operation c.requires.plain (g.V.View.held c.args.view.now) (g.V.View.shown c.args.view.now) c.args.node.now c.args.target c.requires.target
-    c.args.moment fresh c.in_ok-answered.field-0 c.requires.sound (sym c.is_leased.ensures ∙ c.if-is_leased.true)
-    (subst (λ r. IsAnswered c.args.request.now.close r c.args.target.reads.items c.in_ok-answered.field-0) c.refusal.ensures c.in_ok-answered.ensures)
+pub returns-in-Some-clause-evaluated : goal.returns-in-Some-clause-evaluated
+returns-in-Some-clause-evaluated g c =
+    refused_answer c.args.call.now c.requires.call c.args.recursive c.requires.operation (g.V.View.held c.args.view.now) (g.V.View.shown c.args.view.now) c.args.target c.requires.target c.in-Some.reply _
+    (sym c.in_ok-reply.ensures ∙ c.in-Some.is) c.in_ok-answered.ensures
 
-pub returns-then-has_children-clause-evaluated : goal.returns-then-has_children-clause-evaluated
-returns-then-has_children-clause-evaluated g c = λ fresh.
-    not_empty_draft c.args.request.now c.args.path.now c.args.recursive c.requires.operation c.requires.plain (g.V.View.held c.args.view.now) (g.V.View.shown c.args.view.now) c.args.node.now c.args.target c.requires.target
-    c.args.moment fresh c.in_ok-answered-2.field-0 c.requires.sound (sym c.is_leased.ensures ∙ c.if-is_leased.false) c.if-recursive.false (sym c.has_children.ensures ∙ c.if-has_children.true)
-    (subst (λ r. IsAnswered c.args.request.now.close r c.args.target.reads.items c.in_ok-answered-2.field-0) c.refusal-then-has_children.ensures c.in_ok-answered-2.ensures)
+pub clear-requires-clause-operation : goal.clear-requires-clause-operation
+clear-requires-clause-operation g c = c.requires.operation ∙ ap (op.Delete c.args.call.now.path.now) c.if-recursive.true
 
-pub remove-requires-clause-removal : goal.remove-requires-clause-removal
-remove-requires-clause-removal g c =
-    subst (λ l. IsRemoval (g.V.View.held c.args.view.now) (g.V.View.shown c.args.view.now) c.args.request.now c.args.moment c.args.path.now c.args.target l)
-    (sym (c.in_ok-push.ensures.items ∙ ap (λ l. l ++ c.args.target.id ∷ []) c.new-taken.ensures.items))
-    (alone c.args.request.now c.args.path.now c.args.recursive c.requires.operation c.requires.plain (g.V.View.held c.args.view.now) (g.V.View.shown c.args.view.now) c.args.node.now c.args.target c.requires.target
-    c.args.moment c.requires.sound (sym c.is_leased.ensures ∙ c.if-is_leased.false) c.if-recursive.false (sym c.has_children.ensures ∙ c.if-has_children.false))
+pub clear-requires-clause-passed : goal.clear-requires-clause-passed
+clear-requires-clause-passed g c = subst (λ b. refusal_of c.args.call.now b c.args.target.base.node c.args.target.top.node ≡ None) c.if-recursive.true (sym c.in_ok-reply.ensures ∙ is_none _ c.in_default.not-Some)
+
+pub take_away-requires-clause-looked : goal.take_away-requires-clause-looked
+take_away-requires-clause-looked g c = c.requires.target.looked
+
+pub take_away-requires-clause-removal : goal.take_away-requires-clause-removal
+take_away-requires-clause-removal g c =
+    alone c.args.call.now c.requires.call c.args.recursive c.requires.operation (g.V.View.held c.args.view.now) (g.V.View.shown c.args.view.now) c.args.target c.requires.target (sym c.in_ok-reply.ensures ∙ is_none _ c.in_default.not-Some) c.if-recursive.false _
+    refl c.in_ok-copy.ensures (c.in_ok-push.ensures.items ∙ ap (λ l. l ++ c.args.target.top.id ∷ []) c.new-taken.ensures.items)

@@ -1,10 +1,17 @@
-use Rattle.std.proofs.Common.{ap, sym, option_map, ◌∙◌}
-use Rattle.inode_tree.specs.declared.id.NodeId.{NodeId}
-use Rattle.op_filesystem.proofs.FilesystemLemmas.{there_draft}
+use Rattle.std.proofs.Common.{sym, ◌∙◌}
+use Rattle.op_filesystem.proofs.FilesystemLemmas.{there_answer, made_answer, lacking_answer}
 use Rattle.op_filesystem.proofs.eval.create_in.Goals as goal
 
-pub returns-in_ok-already_there-in-Some : goal.returns-in_ok-already_there-in-Some
-returns-in_ok-already_there-in-Some g c =
-    there_draft (g.V.View.held c.args.view.now) (g.V.View.shown c.args.view.now) c.args.request.now c.args.moment c.args.fresh.now c.args.name c.args.props.now c.requires.operation c.requires.sound
-    c.requires.superuser c.args.account.now c.requires.account c.requires.shared c.in-Some.field-0.0 c.in_ok-already_there-in-Some.field-0
-    (sym c.child_of.ensures ∙ ap (option_map (λ (id : NodeId). id.0)) c.in-Some.is) c.in_ok-already_there-in-Some.ensures
+pub returns-then-is_some : goal.returns-then-is_some
+returns-then-is_some g c =
+    there_answer c.args.call.now c.args.props.now c.requires.call c.requires.operation _ _ c.requires.allowed _ c.requires.parent c.child_of.result _ c.child_of.ensures (sym c.is_some.ensures ∙ c.if-is_some.true) c.in_ok-already_there.ensures
+
+pub returns-in-Some : goal.returns-in-Some
+returns-in-Some g c =
+    lacking_answer c.args.call.now c.args.props.now c.requires.call c.requires.operation _ _ c.requires.allowed _ c.requires.parent c.id-id.result c.id-id.ensures c.child_of.result c.child_of.ensures
+    (sym c.is_some.ensures ∙ c.if-is_some.false) c.in-Some.need c.in-Some.ensures
+
+pub returns-in_ok-made-in-None : goal.returns-in_ok-made-in-None
+returns-in_ok-made-in-None g c =
+    made_answer c.args.call.now c.args.props.now c.requires.call c.requires.operation _ _ c.requires.allowed _ c.requires.parent c.id-id.result c.id-id.ensures c.child_of.result c.child_of.ensures
+    (sym c.is_some.ensures ∙ c.if-is_some.false) _ c.in-None.ensures c.in_ok-made-in-None.ensures

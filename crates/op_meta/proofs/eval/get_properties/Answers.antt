@@ -1,13 +1,14 @@
 use Rattle.std.proofs.Common.{Err, ap}
-use Rattle.op_meta.proofs.MetaLemmas.{draft, stopped}
+use Rattle.namespace_model.specs.GetProperties.{properties_of}
+use Rattle.path_walk.proofs.CallAnswers.{look_answer, look_lacks, stopped_by}
+use Rattle.op_meta.proofs.MetaLemmas.{looks_as, says}
 use Rattle.op_meta.proofs.eval.get_properties.Goals as goal
 
-pub returns-in-Ok-drafted-clause-evaluated : goal.returns-in-Ok-drafted-clause-evaluated
-returns-in-Ok-drafted-clause-evaluated g c = λ fresh.
-    draft (g.V.View.held c.args.view.now) (g.V.View.shown c.look_up.new.view) c.args.request.now c.args.moment fresh c.args.caller.now c.args.path.now c.args.status
-    c.requires.operation c.requires.caller c.in-Ok.find c.in-Ok-drafted.draft c.requires.sound c.in-Ok.ensures.found c.in-Ok.ensures.looked c.in-Ok-drafted.ensures
+pub returns-in_ok-drafted-in-Ok-clause-evaluated : goal.returns-in_ok-drafted-in-Ok-clause-evaluated
+returns-in_ok-drafted-in-Ok-clause-evaluated g c =
+    look_answer _ _ c.args.call.now (λ e. properties_of e c.args.status) c.in-Ok.find _ _ c.requires.call (looks_as c.args.call.now _ c.requires.operation) c.in-Ok.ensures.found c.in-Ok.ensures.looked
+    c.in_ok-drafted-in-Ok.ensures (says c.args.call.now c.args.status _)
 
 pub returns-in-Err-clause-evaluated : goal.returns-in-Err-clause-evaluated
-returns-in-Err-clause-evaluated g c = λ fresh.
-    stopped (g.V.View.held c.args.view.now) (g.V.View.shown c.look_up.new.view) c.args.request.now c.args.moment fresh c.args.caller.now c.args.path.now c.args.status
-    c.requires.operation c.requires.caller c.in-Err.stop (λ n e. c.in-Err.ensures.need n (ap Err e))
+returns-in-Err-clause-evaluated g c =
+    stopped_by _ _ c.args.call.now c.in-Err.stop (λ n e. look_lacks _ _ c.args.call.now (λ e. properties_of e c.args.status) n c.requires.call (looks_as c.args.call.now _ c.requires.operation) (c.in-Err.ensures.need n (ap Err e)))

@@ -1,7 +1,7 @@
 use Rattle.std.proofs.Common.{◌≡◌, slice_get, ap, ◌∙◌}
 use Rattle.std.proofs.lemmas.Grind.{merely}
 use Rattle.inode_tree.specs.Parts.{tree_of}
-use Rattle.engine.specs.Solos.{parts_of}
+use Rattle.parted_namespace.specs.Namespace.{parts_of}
 use Rattle.engine.proofs.stripes.StripesView.stands.Goals as goal
 
 pub returns : goal.returns

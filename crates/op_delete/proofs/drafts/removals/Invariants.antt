@@ -1,6 +1,0 @@
-use Rattle.std.proofs.Common.{◌≡◌, take}
-use Rattle.op_delete.specs.Removals.{removals}
-use Rattle.op_delete.proofs.drafts.removals.Given as goal
-
-abbrev pub invariant-loop-id : goal.invariant-loop-id
-invariant-loop-id l = l.changes.items ≡ removals l.fn.base l.fn.name (take l.id-index l.taken)

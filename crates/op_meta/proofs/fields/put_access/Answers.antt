@@ -1,7 +1,0 @@
-use Rattle.std.proofs.Common.{ap}
-use Rattle.namespace_model.specs.declared.field.Field.TheVariants.{Owner, Group, Permissions}
-use Rattle.op_meta.proofs.MetaLemmas.{three_more}
-use Rattle.op_meta.proofs.fields.put_access.Goals as goal
-
-pub returns : goal.returns
-returns c = three_more _ _ _ _ _ _ _ _ _ _ c.in_ok-push.ensures.items c.in_ok-push-2.ensures.items c.in_ok-push-3.ensures.items (ap Owner c.in_ok-owner.ensures) (ap Group c.in_ok-group.ensures) (ap Permissions c.in_ok-permissions.ensures)

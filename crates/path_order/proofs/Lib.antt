@@ -1,0 +1,11 @@
+pub mod NextPath
+pub mod CursorLemmas
+pub mod PageLemmas
+pub mod WayLemmas
+pub mod TokenLemmas
+pub mod ListingLemmas
+pub mod SubtreeLists
+pub mod NodeIds
+pub mod FollowLemmas
+pub mod ApartLemmas
+pub mod WholeLemmas

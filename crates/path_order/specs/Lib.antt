@@ -1,0 +1,6 @@
+pub mod Cursors
+pub mod PagesBelow
+pub mod Starts
+pub mod Listings
+pub mod Followed
+pub mod Subtrees

@@ -1,5 +1,8 @@
 pub mod Texts
 pub mod EvalLemmas
+pub mod FineQuestions
+pub mod FineNodes
+pub mod FinePages
 pub mod FineSteps
 pub mod OpeningLemmas
 pub mod StripeLemmas

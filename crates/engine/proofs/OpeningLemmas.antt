@@ -7,7 +7,7 @@ use Rattle.inode_tree.specs.Inodes.{BareInode}
 use Rattle.inode_tree.specs.Parts.{Parts, inode_at}
 use Rattle.inode_tree.specs.Rows.{fresh_id}
 use Rattle.inode_tree.specs.Stands.{Stands}
-use Rattle.parted_namespace.specs.Journals.{HasDates}
+use Rattle.inode_tree.specs.Views.{HasDates}
 use Rattle.parted_namespace.specs.Opening.{AreOpening}
 use Rattle.parted_namespace.proofs.OpeningTree.{alone, opening_dates, opening_stands}
 use Rattle.engine.specs.Solos.{SoloView, parts_in, made_from, made_by, IsKept}

@@ -9,7 +9,7 @@ use Rattle.namespace_model.specs.declared.request.Entry.{Entry}
 use Rattle.namespace_model.specs.declared.request.Request.{Request}
 use Rattle.op_decode.specs.Built.{IsBuilt}
 use Rattle.namespace_model.specs.Sound.{IsSound}
-use Rattle.namespace_model.specs.Step.{outcome, step, new_paths, tree_from, tree_after}
+use Rattle.namespace_model.specs.Step.{step, new_paths, tree_from, tree_after}
 use Rattle.namespace_model.specs.Trees.{Path, Tree, opening_tree}
 use Rattle.namespace_model.proofs.Runs.{tree_push}
 use Rattle.namespace_model.proofs.LineLaws.{outcome_few}
@@ -27,11 +27,10 @@ use Rattle.inode_tree.specs.Parts.{Parts, inode_at}
 use Rattle.inode_tree.specs.Promises.{applied_all, numbers_of, is_one_of, IsEntryOf, IsOfStep, IsDraft, IsNeed}
 use Rattle.inode_tree.specs.Rows.{fresh_id}
 use Rattle.inode_tree.specs.Stands.{Stands}
-use Rattle.inode_tree.specs.Views.{Held, Shown, ArePossible, covers}
+use Rattle.inode_tree.specs.Views.{Held, Shown, ArePossible, covers, HasDates}
 use Rattle.inode_tree.proofs.PromiseLemmas.{lies_one, at-applied_all}
 use Rattle.inode_tree.proofs.FrameLemmas.{others_stay}
 use Rattle.inode_tree.proofs.TurnLemmas.{Lacks, inode-after}
-use Rattle.parted_namespace.specs.Journals.{HasDates}
 use Rattle.parted_namespace.proofs.GivenIds.{at_within}
 use Rattle.parted_namespace.proofs.StepLemmas.{dates_step, known_lacks, turns_leave}
 use Rattle.path_walk.proofs.SetLemmas.{one_lies}
@@ -134,7 +133,7 @@ module _ (old : SoloView) (kept : IsKept old) (e : Entry) (sound : IsSound e.req
   of_step = draft.of_step (parts_in old) t placed possible entry_of
 
   pub spelled : CanSpell d.reply
-  spelled = subst CanSpell (sym of_step.reply) (outcome_fine t e built timely kept.dates).spelled
+  spelled = subst CanSpell (sym of_step.reply) (outcome_fine t e timely kept.dates).spelled
 
   abbrev number : ℕ
   number = length old.entries + 1
@@ -223,3 +222,8 @@ module _ (old : SoloView) (kept : IsKept old) (e : Entry) (sound : IsSound e.req
 
   pub stand_as : (ps : Parts) → ps ≡ applied_all number d.changes.items (parts_in old) → Stands ps (parts.tree_of ps)
   stand_as ps is = subst (λ (qs : Parts). Stands qs (parts.tree_of qs)) (sym is) stand_so
+
+  pub date_as : (ps : Parts) → ps ≡ applied_all number d.changes.items (parts_in old) → HasDates (parts.tree_of ps)
+  date_as ps is =
+      subst (λ (qs : Parts). HasDates (parts.tree_of qs)) (sym is)
+      (subst HasDates (sym (of_step.stands number).shown) (dates_step t kept.stands.tree e number sound (has_date e.moment timely) kept.dates))

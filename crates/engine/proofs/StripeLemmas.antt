@@ -1,5 +1,5 @@
 -- The parts of stripes, and what changes of the stripes make of them.
-use Rattle.std.proofs.Common.{◌≡◌, ◌≢◌, ◌⊎◌, inl, inr, ℕ, zero, suc, ◌+◌, ◌*◌, ◌%◌, ◌^◌, ◌==◌, ◌<◌, false, cond, List, [], ◌∷◌, length, length-set, map, take, get_or, slice_get, slice_set, ◌++◌, bit_and, w64, Option, Some, None, option_map, is_some, refl, ap, sym, subst, ◌∙◌, arith}
+use Rattle.std.proofs.Common.{◌≡◌, ◌≢◌, ◌⊎◌, inl, inr, ℕ, zero, suc, ◌*◌, ◌%◌, ◌^◌, ◌==◌, ◌<◌, cond, List, [], ◌∷◌, length, length-set, map, take, get_or, slice_get, slice_set, ◌++◌, bit_and, w64, Option, Some, None, option_map, is_some, refl, ap, sym, subst, ◌∙◌, arith}
 use Rattle.std.specs.Cmp.{unsigned_Decides}
 use Rattle.std.specs.Int.{bit_at, bit_not}
 use Rattle.std.proofs.lemmas.Bool.{false≢true, cases_eq}
@@ -13,13 +13,14 @@ use Rattle.inode_tree.specs.Parts.{Parts, tree_of}
 use Rattle.inode_tree.specs.Promises.{applied_from, applied_all}
 use Rattle.inode_tree.specs.Stands.{Stands}
 use Rattle.inode_tree.specs.Stripes.{StripeRecord, IsReady}
+use Rattle.inode_tree.specs.Views.{HasDates}
 use Rattle.inode_tree.proofs.PromiseLemmas.{at-applied_all}
 use Rattle.inode_tree.proofs.SameParts.{same_lists}
 use Rattle.parted_namespace.specs.Laws.{part_at, length-parts}
 use Rattle.parted_namespace.specs.Namespace.{parts_of}
 use Rattle.parted_namespace.specs.Opening.{bare_stripe, opening_stripes, AreOpening}
 use Rattle.parted_namespace.proofs.GivenIds.{at_within}
-use Rattle.parted_namespace.proofs.OpeningTree.{opening_numbered, opening_parts, opening_stands, parts_of_bare}
+use Rattle.parted_namespace.proofs.OpeningTree.{opening_dates, opening_numbered, opening_parts, opening_stands, parts_of_bare}
 use Rattle.engine.specs.Stripes.{AreStripes, AreReady, LeaveOthers, applied_where, IsChanged, AreChanged, AreSame}
 
 -- ---- lists
@@ -258,19 +259,22 @@ pub started_stripes : (xs : List StripeRecord) → map bare_stripe xs ≡ openin
 started_stripes xs is = record {
   numbered = opening_numbered xs is;
   stands = let s = opening_stands (parts_of xs) (started_opening xs is) in subst (Stands (parts_of xs)) (sym s.shown) s;
+  dates = let s = opening_stands (parts_of xs) (started_opening xs is) in subst HasDates (sym s.shown) opening_dates;
 }
 
 -- ---- the stripes behind a call
 
 pub applied_stripes : (written number : ℕ) (cs : List Change) (old new : List StripeRecord) → AreStripes old → LeaveOthers written number cs (parts_of old) → AreChanged (applied_where written number cs) old new
-    → Stands (applied_all number cs (parts_of old)) (tree_of (applied_all number cs (parts_of old))) → AreStripes new
-applied_stripes written number cs old new are leave changed stands = record {
+    → Stands (applied_all number cs (parts_of old)) (tree_of (applied_all number cs (parts_of old))) → HasDates (tree_of (applied_all number cs (parts_of old))) → AreStripes new
+applied_stripes written number cs old new are leave changed stands dates = record {
   numbered = still_numbered (applied_where written number cs) old new are.numbered changed;
   stands = subst (λ (ps : Parts). Stands ps (tree_of ps)) (sym (applied_parts written number cs old new are leave changed)) stands;
+  dates = subst (λ (ps : Parts). HasDates (tree_of ps)) (sym (applied_parts written number cs old new are leave changed)) dates;
 }
 
 pub same_stripes : (old new : List StripeRecord) → AreStripes old → AreSame old new → AreStripes new
 same_stripes old new are same = record {
   numbered = still_numbered (λ place stripe part. part) old new are.numbered same;
   stands = subst (λ (ps : Parts). Stands ps (tree_of ps)) (sym (same_parts_of old new same)) are.stands;
+  dates = subst (λ (ps : Parts). HasDates (tree_of ps)) (sym (same_parts_of old new same)) are.dates;
 }

@@ -13,8 +13,8 @@ use Rattle.inode_tree.specs.Parts.{Parts, inode_at}
 use Rattle.inode_tree.specs.Rows.{fresh_id}
 use Rattle.inode_tree.specs.Stands.{Stands}
 use Rattle.inode_tree.specs.Stripes.{StripeRecord, stripe_code}
+use Rattle.inode_tree.specs.Views.{HasDates}
 use Rattle.parted_namespace.specs.Namespace.{parts_of}
-use Rattle.parted_namespace.specs.Journals.{HasDates}
 
 pub record SoloView : Type 0 where
   -- the journal: its entries, its limits, and for how many more entries there is memory

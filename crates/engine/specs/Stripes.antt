@@ -6,12 +6,14 @@ use Rattle.inode_tree.specs.Changes.{Part, applied}
 use Rattle.inode_tree.specs.Parts.{Parts, tree_of}
 use Rattle.inode_tree.specs.Stands.{Stands}
 use Rattle.inode_tree.specs.Stripes.{StripeRecord, IsReady}
+use Rattle.inode_tree.specs.Views.{HasDates}
 use Rattle.parted_namespace.specs.Namespace.{parts_of}
 
--- each has its place as its number, and their parts stand for the tree that they show
+-- each has its place as its number, and their parts stand for the tree that they show, in which each node has a date
 pub record AreStripes (stripes : List StripeRecord) : Type 0 where
   pub numbered : (k : ℕ) (s : StripeRecord) → slice_get stripes k ≡ Some s → s.stripe ≡ k
   pub stands : Stands (parts_of stripes) (tree_of (parts_of stripes))
+  pub dates : HasDates (tree_of (parts_of stripes))
 
 -- in each of the stripes whose bit is set, what the changes make of it is ready to be put in
 abbrev pub AreReady : ℕ → List StripeRecord → List Change → Type 0

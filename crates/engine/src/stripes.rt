@@ -8,7 +8,7 @@ use parted_namespace::Namespace;
 use std::alloc::{AllocError, Global};
 use std::marker::Model;
 
-/// The stripes, by number. A contract sees the list of them. Their parts stand for a tree.
+/// The stripes, by number. A contract sees the list of them. Their parts stand for a tree in which each node has a date.
 #[derive(Drop)]
 pub(crate) struct Stripes {
     stripes: Vec<Stripe>,
@@ -35,6 +35,7 @@ impl Stripes {
     ghost use Rattle.inode_tree.specs.Parts.{tree_of};
     ghost use Rattle.inode_tree.specs.Promises.{applied_all};
     ghost use Rattle.inode_tree.specs.Stands.{Stands};
+    ghost use Rattle.inode_tree.specs.Views.{HasDates};
     ghost use Rattle.parted_namespace.specs.Namespace.{parts_of};
     ghost use Rattle.parted_namespace.specs.Opening.{AreOpening};
     ghost use Rattle.engine.specs.Stripes.{AreReady, LeaveOthers};
@@ -64,11 +65,13 @@ impl Stripes {
 
     /// Puts in what is ready in the stripes that are written, with the number of the entry. It takes no memory.
     ///
-    /// These are the changes for which it was made ready. They leave the other stripes, and the parts with them stand for a tree.
+    /// These are the changes for which it was made ready. They leave the other stripes, and the parts with them stand for a tree in which
+    /// each node has a date.
     pub(crate) fn apply(&mut self, written: u64, changes: &[Change], number: u64)
         requires ready { AreReady written self.old changes.now }
         requires others { LeaveOthers written number changes.now (parts_of self.old) }
         requires stands { Stands (applied_all number changes.now (parts_of self.old)) (tree_of (applied_all number changes.now (parts_of self.old))) }
+        requires dates { HasDates (tree_of (applied_all number changes.now (parts_of self.old))) }
         ensures { parts_of self.new ≡ applied_all number changes.now (parts_of self.old) }
     {
         apply_written(self.stripes.as_mut_slice(), written, changes, number);

@@ -3,7 +3,9 @@ use Rattle.std.specs.Prelude.{◌≡◌, ℕ, ◌%◌, ◌≤◌, Bool, true, fa
 use Rattle.std.specs.FinMap as fin
 use Rattle.lock_core.specs.declared.object.LockMode.{LockMode}
 use Rattle.lock_core.specs.declared.object.LockMode.TheVariants as mode
-use Rattle.namespace_model.specs.Trees.{Tree}
+use Rattle.namespace_model.specs.Nodes.{Node}
+use Rattle.namespace_model.specs.Trees.{Path, Tree, at}
+use Rattle.inode_tree.specs.Footprints.{HasDate}
 use Rattle.inode_tree.specs.Inodes.{BareInode}
 use Rattle.inode_tree.specs.Changes.{Part}
 use Rattle.inode_tree.specs.Rows.{fresh_id}
@@ -43,12 +45,17 @@ shown_at shown id = option_and_then (λ part. fin.get part id) (shown (id % 64))
 abbrev pub IsKnown : Shown → ℕ → Type 0
 IsKnown shown id = (parts : Parts) (t : Tree) → Stands parts t → Agrees shown parts → IsSome (inode_at parts id)
 
--- parts that stand for a tree and agree with what was shown
+-- the moment of each node has a date
+abbrev pub HasDates : Tree → Type 0
+HasDates t = (p : Path) (x : Node) → at t p ≡ Some x → HasDate x.moment
+
+-- parts that stand for a tree in which each node has a date, and that agree with what was shown
 pub record Agreeing (shown : Shown) : Type 0 where
   pub parts : Parts
   pub tree : Tree
   pub stands : Stands parts tree
   pub agrees : Agrees shown parts
+  pub dates : HasDates tree
 
 -- Such parts that also keep none of the ids which a pass has still to give. There may be none where that pass is not of these parts.
 pub record ArePossible (shown : Shown) (pass used : ℕ) (parts : Parts) (t : Tree) : Type 0 where

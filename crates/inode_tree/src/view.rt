@@ -41,7 +41,7 @@ pub trait View {
         requires { stripe < 64 }
         ensures { result ≡ held self.now stripe };
 
-    /// Some list of parts that stands for a tree agrees with what was shown. It does nothing.
+    /// Some list of parts that stands for a tree, in which each node has a date, agrees with what was shown. It does nothing.
     fn stands(&self)
         ensures { ∥ Agreeing (shown self.now) ∥₁ };
 }

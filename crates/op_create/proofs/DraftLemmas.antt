@@ -12,19 +12,7 @@ use Rattle.inode_tree.specs.declared.id.NodeId.{NodeId}
 use Rattle.inode_tree.specs.Drawing.{next_ids}
 use Rattle.inode_tree.specs.Rows.{fresh_id}
 use Rattle.inode_tree.proofs.TurnLemmas.{number_differs}
-use Rattle.std.specs.Prelude.{IsTrue, ◌↔◌}
-use Rattle.std.specs.Cmp.Lexicographic.{nat_list_cmp_total}
-use Rattle.std.specs.FinMap as fin
-use Rattle.std.specs.FinMap.{find}
-use Rattle.file_data.specs.FileRecord.{FileRecord}
-use Rattle.inode_tree.specs.declared.inode.Content.{Content}
-use Rattle.inode_tree.specs.declared.inode.Content.TheVariants as content
 use Rattle.inode_tree.specs.declared.inode.Inode.{Inode}
-use Rattle.inode_tree.specs.ChildLists.{ChildRecord, name_cmp}
-use Rattle.inode_tree.specs.Inodes.{BareInode, bare, bare_content, numbered, links_in}
-use Rattle.inode_tree.proofs.LinkLemmas.{key_same}
-use Rattle.inode_tree.proofs.MapLemmas.{name_cmp-IsAntisymmetric}
-use Rattle.op_create.specs.Creates.{has_no_children}
 use Rattle.op_create.specs.Chains.{Maker, chained, new_inode, next_node}
 
 -- ---- ids
@@ -88,33 +76,6 @@ module _ (maker : Maker) (m : Making) (group : List ℕ) (acl : AclPair) (above 
       ∙ one_more (drop (suc k) names) (drop (suc k) ids) last (is ∙ last_test k names within)
       ∙ ap (λ j. change.Link above n id ∷ change.Put id (new_inode maker.moment (next_node maker m group acl last)) ∷ chained maker m group (next_node maker m group acl last).acl id (drop j names) (drop j ids))
       (let h : suc k ≡ k + 1 = omega arith in h)
-
--- ---- children
-
-is_false : (b : Bool) → (IsTrue b → ⊥) → b ≡ false
-is_false true h = absurd (h refl)
-is_false false h = refl
-
--- a map of a list has nothing where the list has nothing
-no_entries : (links : List (List ℕ × ℕ)) (b : Bool) → (IsTrue b ↔ (links ≡ [])) → b ≡ (fin.len (fin.from_entries {R = name_cmp} links) == 0)
-no_entries [] b h = h.1 refl ∙ sym (ap (λ k. k == 0) (fin.len-empty name_cmp ℕ))
-no_entries (l ∷ ls) b h = is_false b (λ k. more (h.0 k)) ∙ sym (number_differs (fin.len (fin.from_entries {R = name_cmp} (l ∷ ls))) 0 some)
-  where
-    more : l ∷ ls ≡ [] → ⊥
-    more e = let k : length (l ∷ ls) ≡ 0 = ap (λ (r : List (List ℕ × ℕ)). length r) e in let s : length (l ∷ ls) ≡ suc (length ls) = refl in omega arith
-
-    some : fin.len (fin.from_entries {R = name_cmp} (l ∷ ls)) ≢ 0
-    some none =
-        false≢true (ap is_some (sym (fin.get-empty name_cmp l.0) ∙ ap (λ k. fin.get k l.0) (sym (fin.empty_of_len (fin.from_entries {R = name_cmp} (l ∷ ls)) none))
-        ∙ fin.get-from_entries nat_list_cmp_total (l ∷ ls) l.0 ∙ ap (λ t. cond t (Some l.1) (find name_cmp l.0 ls)) (key_same name_cmp nat_list_cmp_total name_cmp-IsAntisymmetric l.0)))
-
-pub bare_directory : (x : BareInode) (i : Inode) (children : ChildRecord) (k : ℕ) (b : Bool) → numbered k (bare i) ≡ x → i.content ≡ content.Directory children → (IsTrue b ↔ (children.links ≡ [])) → b ≡ has_no_children x
-bare_directory x i children k b e f h =
-    no_entries children.links b h ∙ sym (ap (λ (y : BareInode). has_no_children y) (sym e) ∙ ap (λ (d : Content). fin.len (links_in (bare_content d)) == 0) f)
-
-pub bare_file : (x : BareInode) (i : Inode) (bytes : FileRecord) (k : ℕ) → numbered k (bare i) ≡ x → i.content ≡ content.File bytes → true ≡ has_no_children x
-bare_file x i bytes k e f =
-    sym (ap (λ j. j == 0) (fin.len-empty name_cmp ℕ)) ∙ sym (ap (λ (y : BareInode). has_no_children y) (sym e) ∙ ap (λ (d : Content). fin.len (links_in (bare_content d)) == 0) f)
 
 -- ---- a step of the loop
 

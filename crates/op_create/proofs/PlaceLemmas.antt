@@ -54,6 +54,7 @@ use Rattle.path_walk.specs.declared.stop.End.TheVariants as end
 use Rattle.path_walk.specs.declared.stop.Visit.{Visit}
 use Rattle.path_walk.specs.Answers.{stop_reply}
 use Rattle.path_walk.specs.Calls.{Answers}
+use Rattle.path_walk.specs.Children.{has_children}
 use Rattle.path_walk.specs.Finds.{last_read, read_to, IsFound, IsPlaced, IsFindFor}
 use Rattle.path_walk.specs.Parents.{IsParent, IsParentIn}
 use Rattle.path_walk.specs.Visits.{end_of, IsVisitFor, AreLookedAt, IsOnTheWay, NeedsChild}
@@ -62,7 +63,7 @@ use Rattle.path_walk.proofs.FindLemmas.{child_needs}
 use Rattle.path_walk.proofs.QuestionLemmas.{unless_both}
 use Rattle.op_create.specs.declared.nodes.NewNode.{NewNode}
 use Rattle.op_create.specs.declared.place.Place.{Place}
-use Rattle.op_create.specs.Creates.{IsCreate, making_of, asked, has_no_children, refusal_over, refusal_by, replaced_by, IsComing, IsPlace, LeadsTo, replaced_path}
+use Rattle.op_create.specs.Creates.{IsCreate, making_of, asked, refusal_over, refusal_by, replaced_by, IsComing, IsPlace, LeadsTo, replaced_path}
 use Rattle.op_create.proofs.CreateLemmas.{create_is, caller_is, step_is}
 
 -- ---- names
@@ -205,10 +206,10 @@ module _ (parts : Parts) (t : Tree) (stands : Stands parts t) (path : Path) (i :
   some_long q [] h = absurd h
   some_long q (p ∷ ps) h = number_differs (length (p ∷ ps)) 0 (λ e. let s : length (p ∷ ps) ≡ suc (length ps) = refl in omega arith)
 
-  pub bare_is : is_bare t path ≡ has_no_children y
+  pub bare_is : is_bare t path ≡ (fin.len (links_in y.content) == 0)
   bare_is = by_entries (fin.entries (links_in y.content)) refl
     where
-      by_entries : (es : List (List ℕ × ℕ)) → fin.entries (links_in y.content) ≡ es → is_bare t path ≡ has_no_children y
+      by_entries : (es : List (List ℕ × ℕ)) → fin.entries (links_in y.content) ≡ es → is_bare t path ≡ (fin.len (links_in y.content) == 0)
       by_entries [] e =
           let none : fin.len (links_in y.content) ≡ 0 = fin.len-entries (links_in y.content) ∙ ap (λ (l : List (List ℕ × ℕ)). length l) e in
           none_long (children t path) (no_child none) ∙ sym (ap (λ k. k == 0) none)
@@ -248,7 +249,7 @@ module _ (t : Tree) (e : Entry) (m : Making) (dir : Node) (y : BareInode) where
   other_kind = refuse_if (not (has_kind m.kind (node_of y))) ResourceTypeMismatch
 
   abbrev filled : Option Reply
-  filled = refuse_if (not (has_no_children y)) DirectoryNotEmpty
+  filled = refuse_if (has_children y) DirectoryNotEmpty
 
   abbrev over_refusal : Option Reply
   over_refusal = or_else guarded (or_else taken (or_else unmet (or_else other_kind filled)))
@@ -256,7 +257,7 @@ module _ (t : Tree) (e : Entry) (m : Making) (dir : Node) (y : BareInode) where
   abbrev rest : Outcome
   rest = made_below e m (parent m.path) dir (m.path ∷ [])
 
-  over_is : is_bare t m.path ≡ has_no_children y → create_over t e m dir (node_of y) ≡ unless over_refusal (made_below e m (parent m.path) dir (m.path ∷ []))
+  over_is : is_bare t m.path ≡ (fin.len (links_in y.content) == 0) → create_over t e m dir (node_of y) ≡ unless over_refusal (made_below e m (parent m.path) dir (m.path ∷ []))
   over_is bare =
       ap (λ b. unless guarded (unless taken (unless unmet (unless other_kind (unless (refuse_if (is_directory (node_of y) && not b) DirectoryNotEmpty) rest))))) bare
       ∙ ap (λ b. unless guarded (unless taken (unless unmet (unless other_kind (unless (refuse_if b DirectoryNotEmpty) rest))))) (of_kind y.content)
@@ -326,7 +327,7 @@ module _ (call : Call) (new : NewNode) (is : IsCreate call new) where
   abbrev over_by : Node → BareInode → Caller → Request → Option Reply
   over_by dir y c r =
       or_else (is_guarded c dir path (node_of y)) (or_else (exists_already (entry_of r)) (or_else (is_unmet (entry_of r) (node_of y))
-      (or_else (refuse_if (not (has_kind new.kind (node_of y))) ResourceTypeMismatch) (refuse_if (not (has_no_children y)) DirectoryNotEmpty))))
+      (or_else (refuse_if (not (has_kind new.kind (node_of y))) ResourceTypeMismatch) (refuse_if (has_children y) DirectoryNotEmpty))))
 
   over_same : (e : Entry) → e.request ≡ call.request.now → (dir : Node) (y : BareInode) → over_by dir y (caller_of e) e.request ≡ refusal_over call new.kind dir y
   over_same e asks dir y = ap (λ c. over_by dir y c e.request) (caller_is e call is.is_call asks) ∙ ap (over_by dir y caller) asks

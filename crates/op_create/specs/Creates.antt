@@ -1,6 +1,5 @@
 -- What a request to make a file or a directory comes to, once the directory was looked at in which a node is to be made.
-use Rattle.std.specs.Prelude.{◌≡◌, ℕ, ◌==◌, ◌≤◌, Bool, not, List, [], ◌∷◌, ◌++◌, length, Option, Some, None, option_map, IsSome}
-use Rattle.std.specs.FinMap as fin
+use Rattle.std.specs.Prelude.{◌≡◌, ℕ, ◌≤◌, Bool, not, List, [], ◌∷◌, ◌++◌, length, Option, Some, None, option_map, IsSome}
 use Rattle.namespace_model.specs.declared.code.Code.TheVariants.{ResourceTypeMismatch, DirectoryNotEmpty}
 use Rattle.namespace_model.specs.declared.op.Kind.{Kind}
 use Rattle.namespace_model.specs.declared.op.Op.{Op}
@@ -14,7 +13,7 @@ use Rattle.namespace_model.specs.Refusals.{or_else, refuse_if, is_guarded, exist
 use Rattle.namespace_model.specs.Trees.{Path, Tree}
 use Rattle.inode_tree.specs.declared.id.NodeId.{NodeId}
 use Rattle.inode_tree.specs.Footprints.{ids_of}
-use Rattle.inode_tree.specs.Inodes.{BareInode, links_in, node_of}
+use Rattle.inode_tree.specs.Inodes.{BareInode, node_of}
 use Rattle.inode_tree.specs.Parts.{Parts, follow}
 use Rattle.inode_tree.specs.Promises.{numbers_of}
 use Rattle.inode_tree.specs.Stands.{Stands}
@@ -23,6 +22,7 @@ use Rattle.path_walk.specs.declared.call.Call.{Call}
 use Rattle.path_walk.specs.declared.find.Found.{Found}
 use Rattle.path_walk.specs.declared.find.Found.TheVariants as found
 use Rattle.path_walk.specs.Calls.{IsCall}
+use Rattle.path_walk.specs.Children.{has_children}
 use Rattle.path_walk.specs.Visits.{AreLookedAt}
 use Rattle.op_create.specs.declared.nodes.NewNode.{NewNode}
 use Rattle.op_create.specs.declared.place.Place.{Place}
@@ -48,9 +48,6 @@ asked call = record { conn = 0; index = 0; moment = call.moment; request = call.
 
 -- ---- refusals
 
-abbrev pub has_no_children : BareInode → Bool
-has_no_children x = fin.len (links_in x.content) == 0
-
 -- the first refusal where a node is there, in this directory
 abbrev pub refusal_over : Call → Kind → Node → BareInode → Option Reply
 refusal_over call kind dir y =
@@ -58,7 +55,7 @@ refusal_over call kind dir y =
     (or_else (exists_already (asked call))
     (or_else (is_unmet (asked call) (node_of y))
     (or_else (refuse_if (not (has_kind kind (node_of y))) ResourceTypeMismatch)
-    (refuse_if (not (has_no_children y)) DirectoryNotEmpty))))
+    (refuse_if (has_children y) DirectoryNotEmpty))))
 
 -- the first refusal by what was found in this directory
 abbrev pub refusal_by : Call → Kind → Node → Found → Option Reply

@@ -4,13 +4,14 @@ ghost use Rattle.inode_tree.specs.Inodes.{node_of};
 ghost use Rattle.namespace_model.specs.Access.{write_execute};
 ghost use Rattle.namespace_model.specs.Refusals.{lacks, or_else, is_unmet_without};
 ghost use Rattle.namespace_model.specs.Nodes.{has_kind};
-ghost use Rattle.op_create.specs.Creates.{asked, has_no_children, refusal_over, refusal_by};
+ghost use Rattle.op_create.specs.Creates.{asked, refusal_over, refusal_by};
 
 use acl_text::Perm;
-use inode_tree::{Content, NodeRef};
+use inode_tree::NodeRef;
 use namespace_model::{Code, Kind, Reply};
 use path_walk::{
-    Call, Found, guarded, is_directory, lacks_above, refuse_if, taken, unmet, unmet_without,
+    Call, Found, guarded, has_children, is_directory, lacks_above, refuse_if, taken, unmet,
+    unmet_without,
 };
 use std::alloc::{AllocError, Global};
 
@@ -79,7 +80,7 @@ fn refused_over(
     if let Some(reply) = refuse_if(alloc, !is_of_kind(kind, node), Code::ResourceTypeMismatch) {
         return Ok(Some(reply));
     }
-    Ok(refuse_if(alloc, !has_no_children(node), Code::DirectoryNotEmpty))
+    Ok(refuse_if(alloc, has_children(node), Code::DirectoryNotEmpty))
 }
 
 // Whether the node is of a kind.
@@ -89,15 +90,5 @@ fn is_of_kind(kind: Kind, node: &NodeRef) -> bool
     match kind {
         Kind::Directory => is_directory(node),
         Kind::File => !is_directory(node),
-    }
-}
-
-// Whether nothing stands below a node.
-fn has_no_children(node: &NodeRef) -> bool
-    ensures { result ≡ has_no_children node.now }
-{
-    match &node.inode().content {
-        Content::Directory(children) => children.is_empty(),
-        Content::File(_) => true,
     }
 }

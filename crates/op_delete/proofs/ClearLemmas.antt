@@ -46,7 +46,8 @@ use Rattle.path_order.proofs.PageLemmas.{is_below_names, below_of, next_is, noth
 use Rattle.path_order.proofs.SubtreeLists.{subtree_is}
 use Rattle.path_order.proofs.WholeLemmas.{all_below}
 use Rattle.op_delete.specs.declared.clear.Cleared.{Cleared}
-use Rattle.op_delete.specs.Deletes.{has_children, AsksNode, AsksChildren, NeedsNode, IsCleared}
+use Rattle.path_walk.specs.Children.{has_children}
+use Rattle.op_delete.specs.Deletes.{AsksNode, AsksChildren, NeedsNode, IsCleared}
 use Rattle.op_delete.proofs.ChildOrder.{left_at, all_left, one_left, none_left}
 use Rattle.op_delete.proofs.SubtreeLemmas.{children_there, one_id}
 

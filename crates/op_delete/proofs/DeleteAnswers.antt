@@ -64,7 +64,8 @@ use Rattle.path_order.specs.Cursors.{IsAt}
 use Rattle.path_order.specs.Subtrees.{IsTop, NeedsSubtree}
 use Rattle.op_delete.specs.declared.clear.Cleared.{Cleared}
 use Rattle.op_delete.specs.declared.eval.Target.{Target}
-use Rattle.op_delete.specs.Deletes.{has_children, refusal_of, IsTargetIn, IsTarget, IsCleared}
+use Rattle.path_walk.specs.Children.{has_children}
+use Rattle.op_delete.specs.Deletes.{refusal_of, IsTargetIn, IsTarget, IsCleared}
 use Rattle.op_delete.proofs.ClearLemmas.{top_later}
 use Rattle.op_delete.proofs.DeleteSteps.{behind_way, way_is, denied_is, missing_is, found_is, node_is}
 use Rattle.op_delete.proofs.SubtreeLemmas.{children_there, alone_ids}

@@ -1,4 +1,3 @@
-pub mod ChildLemmas
 pub mod SubtreeLemmas
 pub mod ChildOrder
 pub mod ClearLemmas

@@ -22,8 +22,8 @@ use Rattle.path_order.proofs.CursorLemmas.{is_there, names_lead, nothing_left}
 use Rattle.path_order.proofs.PageLemmas.{nothing_is}
 use Rattle.path_order.proofs.SubtreeLists.{subtree_is}
 use Rattle.path_order.proofs.WholeLemmas.{all_below}
-use Rattle.op_delete.specs.Deletes.{has_children}
-use Rattle.op_delete.proofs.ChildLemmas.{no_child, a_child}
+use Rattle.path_walk.specs.Children.{has_children}
+use Rattle.path_walk.proofs.ChildLemmas.{no_child, a_child}
 
 module _ (parts : Parts) (t : Tree) (stands : Stands parts t) (path : Path) (root : ℕ) (x : BareInode) (is : IsAt parts path root x) where
   child_leads : (n : List ℕ) → follow parts 0 (path ++ n ∷ []) ≡ child_of x n

@@ -1,6 +1,5 @@
 -- What a delete asks of the node of its path, and what a look through all that stands below it gives.
-use Rattle.std.specs.Prelude.{◌≡◌, ℕ, ◌%◌, Bool, true, false, not, ◌&&◌, List, [], ◌∷◌, ◌++◌, map, Option, Some, None}
-use Rattle.std.specs.FinMap as fin
+use Rattle.std.specs.Prelude.{◌≡◌, ℕ, ◌%◌, Bool, true, false, not, ◌&&◌, [], ◌∷◌, ◌++◌, Option, Some, None}
 use Rattle.head_text.specs.ConditionsOf.{conditions_of}
 use Rattle.lock_core.specs.declared.object.LockMode.TheVariants.{Shared}
 use Rattle.lease_state.specs.LeaseTable.{lease_may_write}
@@ -16,12 +15,13 @@ use Rattle.namespace_model.specs.Trees.{Path, Tree, parent, children, subtree}
 use Rattle.namespace_model.specs.Ways.{reached, way_of}
 use Rattle.inode_tree.specs.declared.need.Need.{Need}
 use Rattle.inode_tree.specs.Footprints.{ids_of}
-use Rattle.inode_tree.specs.Inodes.{BareInode, node_of, links_in}
+use Rattle.inode_tree.specs.Inodes.{BareInode, node_of}
 use Rattle.inode_tree.specs.Parts.{Parts, inode_at, follow}
 use Rattle.inode_tree.specs.Promises.{numbers_of}
 use Rattle.inode_tree.specs.Stands.{Stands}
 use Rattle.inode_tree.specs.Views.{Held, Shown, Agrees, covers}
 use Rattle.path_walk.specs.declared.call.Call.{Call}
+use Rattle.path_walk.specs.Children.{has_children}
 use Rattle.path_walk.specs.Finds.{read_to}
 use Rattle.path_walk.specs.Visits.{AreLookedAt, IsHeldAndShown}
 use Rattle.op_delete.specs.declared.clear.Cleared.{Cleared}
@@ -33,23 +33,6 @@ IsOfDelete (op.Delete path recursive) = Unit {0}
 IsOfDelete other = ⊥
 
 -- ---- the node of the path
-
--- the ids of these links
-abbrev pub ids_in : List (List ℕ × ℕ) → List ℕ
-ids_in links = map (λ (link : List ℕ × ℕ). link.1) links
-
--- the ids of a node's children
-abbrev pub child_ids : BareInode → List ℕ
-child_ids x = ids_in (fin.entries (links_in x.content))
-
--- whether there is one
-abbrev pub is_any : List ℕ → Bool
-is_any [] = false
-is_any (id ∷ ids) = true
-
--- the node is a directory that isn't empty
-abbrev pub has_children : BareInode → Bool
-has_children x = is_any (child_ids x)
 
 -- What is asked of the node, by the node of its parent: the sticky bit of the parent, the conditions, the lease, and unless the call is recursive that it is empty.
 abbrev pub refusal_of : Call → Bool → BareInode → BareInode → Option Reply

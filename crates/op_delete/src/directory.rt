@@ -10,13 +10,12 @@ ghost use Rattle.path_order.specs.Starts.{IsAtFor};
 ghost use Rattle.path_order.specs.Subtrees.{NeedsSubtree};
 ghost use Rattle.path_walk.specs.Calls.{GoesOn};
 
-use super::links::{child_above, has_children};
 use acl_text::Perm;
 use inode_tree::{EvalStop, NodeId, NodeRef, View};
 use lock_core::LockMode;
 use namespace_model::{Caller, Reply};
 use path_text::{Name, Path};
-use path_walk::{guarded, lacks};
+use path_walk::{child_above, guarded, has_children, lacks};
 use std::alloc::{AllocError, Global};
 
 // What a recursive delete asks of the node at a path: of a directory that isn't empty all three rights, and then the sticky rule for each

@@ -11,15 +11,15 @@ ghost use Rattle.path_walk.specs.Settles.{IsRemovalOf};
 ghost use Rattle.path_walk.specs.Visits.{AreLookedAt};
 
 use super::clear::{Cleared, look_through};
-use super::links::has_children;
 use acl_text::Perm;
 use inode_tree::{Draft, EvalStop, Fresh, NodeId, View};
 use namespace_model::{Code, Op, Reply, Request};
 use path_order::Seen;
 use path_text::Name;
 use path_walk::{
-    Base, Call, Entered, Find, Found, Parent, Removal, answered, enter, guarded, lacks,
-    lease_refuses, look_below, refusal, refuse_if, settle_removal, stop_reply, success, unmet,
+    Base, Call, Entered, Find, Found, Parent, Removal, answered, enter, guarded, has_children,
+    lacks_above, lease_refuses, look_below, refusal, refuse_if, settle_removal, stop_reply,
+    success, unmet,
 };
 use std::alloc::{AllocError, Global};
 
@@ -110,8 +110,9 @@ fn delete_in<V: View>(
     ensures on { GoesOn (V.held view.old) (V.held view.new) (V.over view.old) (V.over view.new) (V.shown view.old) (V.shown view.new) }
     ensures evaluated { Answers (V.held view.new) (V.shown view.new) call.now result }
 {
-    let dir = call.path.parent(alloc)?;
-    if let Some(reply) = lacks(alloc, call.caller, Perm::WRITE_EXECUTE, &dir, &at.node)? {
+    let names = call.path.depth() - 1;
+    let want = Perm::WRITE_EXECUTE;
+    if let Some(reply) = lacks_above(alloc, call.caller, want, call.path, names, &at.node)? {
         return Ok(answered(alloc, at.reads, reply, call.request.close)?);
     }
     match look_below(view, at.reads, &at.node, at.name) {

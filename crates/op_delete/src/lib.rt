@@ -14,6 +14,5 @@
 mod clear;
 mod directory;
 mod eval;
-mod links;
 
 pub use eval::eval_delete;

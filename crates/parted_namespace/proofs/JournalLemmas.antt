@@ -24,6 +24,7 @@ use Rattle.inode_tree.specs.Parts.{Parts, inode_at}
 use Rattle.inode_tree.specs.Rows.{fresh_id}
 use Rattle.inode_tree.specs.Stands.{Stands}
 use Rattle.inode_tree.specs.Stripes.{StripeRecord}
+use Rattle.inode_tree.specs.Views.{HasDates}
 use Rattle.inode_tree.proofs.AfterStands.{after_stands}
 use Rattle.inode_tree.proofs.TurnLemmas.{number_tells, Lacks, inode-after, length-after}
 use Rattle.lock_core.specs.Object.{by_pass, replay}
@@ -32,7 +33,7 @@ use Rattle.lock_core.proofs.Histories.{replay-snoc, by_pass_own, by_pass_other}
 use Rattle.parted_namespace.specs.Laws.{with_part, with_parts_at, parts_with, length-parts}
 use Rattle.parted_namespace.specs.Namespace.{parts_of, namespace}
 use Rattle.parted_namespace.specs.Opening.{opening_stripes}
-use Rattle.parted_namespace.specs.Journals.{HasDates, entries_of, ids_given, IsGiven, uses, StandsFor}
+use Rattle.parted_namespace.specs.Journals.{entries_of, ids_given, IsGiven, uses, StandsFor}
 use Rattle.parted_namespace.proofs.OpeningTree.{opening_is, opening_parts, opening_stands, opening_dates, alone}
 use Rattle.parted_namespace.proofs.StepLemmas.{dates_step, known_lacks, turns_leave}
 use Rattle.parted_namespace.proofs.GivenIds.{get_behind, at_within, ids_own, ids_other, differs, given_grows, drawn_or}

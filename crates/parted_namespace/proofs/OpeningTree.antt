@@ -19,9 +19,9 @@ use Rattle.inode_tree.proofs.LinkLemmas.{key_differs}
 use Rattle.inode_tree.proofs.TurnLemmas.{number_tells}
 use Rattle.inode_tree.specs.Footprints.{HasDate}
 use Rattle.inode_tree.specs.Stripes.{StripeRecord}
+use Rattle.inode_tree.specs.Views.{HasDates}
 use Rattle.parted_namespace.specs.Opening.{bare_stripe, account_inode, account_part, AreOpening, opening_stripe, opening_below, opening_stripes}
 use Rattle.parted_namespace.specs.Namespace.{parts_of}
-use Rattle.parted_namespace.specs.Journals.{HasDates}
 use Rattle.parted_namespace.specs.Laws.{part_at, length-below, length-parts}
 
 -- ---- the opening tree

@@ -13,9 +13,9 @@ use Rattle.inode_tree.specs.Footprints.{HasDate}
 use Rattle.inode_tree.specs.Inodes.{BareInode}
 use Rattle.inode_tree.specs.Parts.{Parts, inode_at, follow, id_at}
 use Rattle.inode_tree.specs.Stands.{Stands}
+use Rattle.inode_tree.specs.Views.{HasDates}
 use Rattle.inode_tree.proofs.PairLemmas.{known_is}
 use Rattle.inode_tree.proofs.TurnLemmas.{turned_by, Lacks, lacks_all, left_alone}
-use Rattle.parted_namespace.specs.Journals.{HasDates}
 
 -- ---- dates
 

@@ -2,22 +2,16 @@
 use Rattle.std.specs.Prelude.{◌≡◌, ◌⊎◌, ℕ, ◌<◌, min, List, map, flat_map, length, sum_by, slice_get, Some, IsSome}
 use Rattle.std.specs.FinMap as fin
 use Rattle.namespace_model.specs.declared.request.Entry.{Entry}
-use Rattle.namespace_model.specs.Nodes.{Node}
 use Rattle.namespace_model.specs.Step.{tree_after}
-use Rattle.namespace_model.specs.Trees.{Path, Tree, at}
 use Rattle.inode_tree.specs.declared.placed.Placed.{Placed}
 use Rattle.inode_tree.specs.After.{drawn_ids}
-use Rattle.inode_tree.specs.Footprints.{HasDate}
 use Rattle.inode_tree.specs.Parts.{inode_at}
 use Rattle.inode_tree.specs.Rows.{fresh_id, BeginsRow}
 use Rattle.inode_tree.specs.Stands.{Stands}
 use Rattle.inode_tree.specs.Stripes.{StripeRecord}
+use Rattle.inode_tree.specs.Views.{HasDates}
 use Rattle.lock_core.specs.Object.{by_pass, replay}
 use Rattle.parted_namespace.specs.Namespace.{parts_of, namespace}
-
--- the moment of each node has a date
-abbrev pub HasDates : Tree → Type 0
-HasDates t = (p : Path) (x : Node) → at t p ≡ Some x → HasDate x.moment
 
 -- the entries as the model sees them: without the passes that made them and the ids that these drew
 abbrev pub entries_of : List Placed → List Entry

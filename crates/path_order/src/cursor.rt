@@ -1,5 +1,4 @@
-ghost use Rattle.std.specs.Prelude.{◌≡◌, ℕ, [], Ok, Err, Some, None, option_map, IfOk, OnOk};
-ghost use Rattle.inode_tree.specs.FirstChild.{IsChildAbove};
+ghost use Rattle.std.specs.Prelude.{◌≡◌, ℕ, [], Ok, Err, Some, None, IfOk, OnOk};
 ghost use Rattle.inode_tree.specs.Parts.{Parts};
 ghost use Rattle.inode_tree.specs.Stands.{Stands};
 ghost use Rattle.inode_tree.specs.Views.{Shown};
@@ -10,9 +9,10 @@ ghost use Rattle.path_walk.specs.Calls.{GoesOn};
 ghost use Rattle.path_order.specs.Cursors.{names_of, IsWalk, IsCursor, IsCursorIn, IsAdvanced, IsEnd, IsNextSeen, LooksAtNext, NeedsNext};
 ghost use Rattle.path_order.specs.Starts.{IsAtFor};
 
-use inode_tree::{Content, EvalStop, NodeId, NodeRef, View};
+use inode_tree::{EvalStop, NodeId, NodeRef, View};
 use lock_core::LockMode;
 use path_text::Name;
+use path_walk::child_above;
 use std::alloc::{AllocError, Global};
 
 // A directory on the way to where a walk is, and the name by which the way goes on.
@@ -129,19 +129,5 @@ impl Cursor {
             }
         }
         Ok(None)
-    }
-}
-
-// The first child of a node whose name is greater than a name, and the first of all where none is given. A file has no children.
-fn child_above<'a>(node: &'a NodeRef, name: Option<&Name>) -> Option<(&'a Name, NodeId)>
-    ensures { IsChildAbove node.now (option_map (λ n. n.now) name.entry)
-        (option_map (λ c. (c.0.now, c.1.0)) result) }
-{
-    match &node.inode().content {
-        Content::Directory(children) => match children.above(name) {
-            Some((name, id)) => Some((name, id)),
-            None => None,
-        },
-        Content::File(_) => None,
     }
 }

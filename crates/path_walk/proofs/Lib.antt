@@ -1,4 +1,4 @@
-pub mod LookLemmas
+pub mod ChildLemmas
 pub mod TrailLemmas
 pub mod CallLemmas
 pub mod ReadLemmas

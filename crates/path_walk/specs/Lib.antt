@@ -9,3 +9,4 @@ pub mod Edits
 pub mod Batches
 pub mod Settles
 pub mod Removals
+pub mod Children

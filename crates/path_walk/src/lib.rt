@@ -51,7 +51,7 @@ pub use lines::{
     missing_code, not_met, put_access, put_kind, put_lease, put_length, put_properties, put_stamps,
     stamped, success,
 };
-pub use look::{child_of, is_directory, may_enter};
+pub use look::{child_above, child_of, has_children, is_directory, may_enter};
 pub use parent::{Entered, Parent, enter, parent_at};
 pub use questions::{
     guarded, lacks, lacks_above, lease_code, lease_refuses, may_not_chgrp, may_not_chmod,

@@ -1,4 +1,5 @@
-use Rattle.std.proofs.Common.{Ok, Err, refl, ap, sym, subst, ◌∙◌}
+use Rattle.std.proofs.Common.{◌-◌, take, Ok, Err, refl, ap, sym, subst, ◌∙◌}
+use Rattle.path_text.proofs.PathLemmas.{taken_is_parent}
 use Rattle.namespace_model.specs.Refusals.{lacks}
 use Rattle.inode_tree.specs.Inodes.{node_of}
 use Rattle.path_walk.specs.Answers.{IsAnswered}
@@ -9,21 +10,18 @@ use Rattle.op_delete.proofs.ClearLemmas.{is_none}
 use Rattle.op_delete.proofs.DeleteAnswers.{some_path, denied_answer, node_needed, missing_answer, target_found}
 use Rattle.op_delete.proofs.eval.delete_in.Goals as goal
 
-pub parent-requires : goal.parent-requires
-parent-requires g c = record { below = some_path c.args.call.now c.requires.call c.args.recursive c.requires.operation }
-
 pub look_below-requires : goal.look_below-requires
 look_below-requires g c = record { known = child_known (g.V.View.held c.args.view.now) (g.V.View.shown c.args.view.now) c.args.call.now.caller.now c.args.call.now.path.now c.args.at c.requires.parent }
 
 pub returns-in-Some-clause-evaluated : goal.returns-in-Some-clause-evaluated
 returns-in-Some-clause-evaluated g c =
     denied_answer c.args.call.now c.requires.call c.args.recursive c.requires.operation (g.V.View.held c.args.view.now) (g.V.View.shown c.args.view.now) c.args.at c.requires.parent c.in-Some.reply _
-    (ap (λ p. lacks c.args.call.now.caller.now 3 p (node_of c.args.at.node)) (sym c.in_ok-dir.ensures) ∙ sym c.in_ok-reply.ensures ∙ c.in-Some.is) c.in_ok-answered.ensures
+    (ap (λ p. lacks c.args.call.now.caller.now 3 p (node_of c.args.at.node)) (sym (ap (λ k. take (k - 1) c.args.call.now.path.now) c.depth-names.ensures ∙ taken_is_parent c.args.call.now.path.now)) ∙ sym c.in_ok-reply.ensures ∙ c.in-Some.is) c.in_ok-answered.ensures
 
 pub delete_node-requires-clause-target : goal.delete_node-requires-clause-target
 delete_node-requires-clause-target g c =
     target_found c.args.call.now c.requires.call c.args.recursive c.requires.operation (g.V.View.held c.look_below.new.view) (g.V.View.shown c.look_below.new.view) c.args.at
-    (parent_later c.look_below.ensures.on c.args.at c.requires.parent) (ap (λ p. lacks c.args.call.now.caller.now 3 p (node_of c.args.at.node)) (sym c.in_ok-dir.ensures) ∙ sym c.in_ok-reply.ensures ∙ is_none _ c.in_default.not-Some) c.in-Ok.field-0 c.in-Node.id c.in-Node.node c.in-Ok.ensures.look c.in-Node.is _ refl refl refl refl refl refl
+    (parent_later c.look_below.ensures.on c.args.at c.requires.parent) (ap (λ p. lacks c.args.call.now.caller.now 3 p (node_of c.args.at.node)) (sym (ap (λ k. take (k - 1) c.args.call.now.path.now) c.depth-names.ensures ∙ taken_is_parent c.args.call.now.path.now)) ∙ sym c.in_ok-reply.ensures ∙ is_none _ c.in_default.not-Some) c.in-Ok.field-0 c.in-Node.id c.in-Node.node c.in-Ok.ensures.look c.in-Node.is _ refl refl refl refl refl refl
 
 pub returns-in-Node-clause-on : goal.returns-in-Node-clause-on
 returns-in-Node-clause-on g c = on_both c.look_below.ensures.on c.delete_node.ensures.on
@@ -33,7 +31,7 @@ returns-in_ok-answered-in_default-found g c = record {
   on = c.look_below.ensures.on;
   evaluated =
       missing_answer c.args.call.now c.requires.call c.args.recursive c.requires.operation (g.V.View.held c.look_below.new.view) (g.V.View.shown c.look_below.new.view) c.args.at
-      (parent_later c.look_below.ensures.on c.args.at c.requires.parent) (ap (λ p. lacks c.args.call.now.caller.now 3 p (node_of c.args.at.node)) (sym c.in_ok-dir.ensures) ∙ sym c.in_ok-reply.ensures ∙ is_none _ c.in_default.not-Some) c.in-Ok.field-0 _ c.in-Ok.ensures.look
+      (parent_later c.look_below.ensures.on c.args.at c.requires.parent) (ap (λ p. lacks c.args.call.now.caller.now 3 p (node_of c.args.at.node)) (sym (ap (λ k. take (k - 1) c.args.call.now.path.now) c.depth-names.ensures ∙ taken_is_parent c.args.call.now.path.now)) ∙ sym c.in_ok-reply.ensures ∙ is_none _ c.in_default.not-Some) c.in-Ok.field-0 _ c.in-Ok.ensures.look
       (nothing_found (g.V.View.held c.look_below.new.view) (g.V.View.shown c.look_below.new.view) c.args.at.reads.items c.args.at.node c.args.at.name.now c.in-Ok.field-0 c.in-Ok.ensures.look (λ id y is. c.in_default-found.not-Node id y is))
       (subst (λ r. IsAnswered c.args.call.now.request.now.close r c.in-Ok.field-0.ids.items c.in_ok-answered-in_default-found.field-0) c.refusal.ensures c.in_ok-answered-in_default-found.ensures);
 }
@@ -42,5 +40,5 @@ pub returns-in-Err-clause-evaluated : goal.returns-in-Err-clause-evaluated
 returns-in-Err-clause-evaluated g c =
     stopped_by (g.V.View.held c.look_below.new.view) (g.V.View.shown c.look_below.new.view) c.args.call.now c.in-Err.stop (λ n e.
     node_needed c.args.call.now c.requires.call c.args.recursive c.requires.operation (g.V.View.held c.look_below.new.view) (g.V.View.shown c.look_below.new.view) c.args.at
-    (parent_later c.look_below.ensures.on c.args.at c.requires.parent) (ap (λ p. lacks c.args.call.now.caller.now 3 p (node_of c.args.at.node)) (sym c.in_ok-dir.ensures) ∙ sym c.in_ok-reply.ensures ∙ is_none _ c.in_default.not-Some) n
+    (parent_later c.look_below.ensures.on c.args.at c.requires.parent) (ap (λ p. lacks c.args.call.now.caller.now 3 p (node_of c.args.at.node)) (sym (ap (λ k. take (k - 1) c.args.call.now.path.now) c.depth-names.ensures ∙ taken_is_parent c.args.call.now.path.now)) ∙ sym c.in_ok-reply.ensures ∙ is_none _ c.in_default.not-Some) n
     (child_needs (g.V.View.held c.look_below.new.view) (g.V.View.shown c.look_below.new.view) c.args.call.now.caller.now c.args.call.now.path.now c.args.at (parent_later c.look_below.ensures.on c.args.at c.requires.parent) n (c.in-Err.ensures.need n (ap Err e))))

@@ -1,5 +1,5 @@
 use Rattle.std.proofs.Common.{◌∙◌}
-use Rattle.path_walk.proofs.LookLemmas.{child_in, no_child_in}
+use Rattle.inode_tree.proofs.NodeChildren.{child_in, no_child_in}
 use Rattle.path_walk.proofs.look.child_of.Goals as goal
 
 pub returns-in-Directory : goal.returns-in-Directory

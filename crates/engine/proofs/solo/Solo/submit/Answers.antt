@@ -7,7 +7,7 @@ use Rattle.reply_text.specs.ReplyText.{reply_text}
 use Rattle.engine.specs.Solos.{SoloView}
 use Rattle.parted_namespace.specs.Namespace.{parts_of}
 use Rattle.engine.specs.Submits.{Submits}
-use Rattle.engine.proofs.SoloLemmas.{spelled, applied_is, stand_as, kept_after, others_left, submits}
+use Rattle.engine.proofs.SoloLemmas.{spelled, applied_is, stand_as, date_as, kept_after, others_left, submits}
 use Rattle.engine.proofs.solo.Solo.submit.Goals as goal
 
 pub spell-requires-clause-reply : goal.spell-requires-clause-reply
@@ -20,6 +20,19 @@ spell-requires-clause-reply c =
 pub apply-requires-clause-stands : goal.apply-requires-clause-stands
 apply-requires-clause-stands c =
     stand_as (record { entries = c.self.inside.journal.entries; limits = c.self.inside.journal.limits; spare = c.self.inside.journal.spare; stripes = c.self.inside.stripes; used = c.self.inside.used })
+    c.self.invariant (record { conn = c.args.conn; index = c.args.index; moment = c.args.moment; request = c.args.request }) c.requires.sound c.requires.built c.requires.moment
+    (λ stripe. slice_get (parts_of c.eval.new.view) stripe) (λ stripe. ap (λ v. slice_get (parts_of v) stripe) c.in-Ok.ensures.on.over_same)
+    (record { pass = 0; used = c.self.inside.used }) refl refl c.in-Ok.draft c.in-Ok.ensures.evaluated
+    _
+    (applied_is (record { entries = c.self.inside.journal.entries; limits = c.self.inside.journal.limits; spare = c.self.inside.journal.spare; stripes = c.self.inside.stripes; used = c.self.inside.used })
+    c.self.invariant (record { conn = c.args.conn; index = c.args.index; moment = c.args.moment; request = c.args.request }) c.requires.sound c.requires.built c.requires.moment
+    (λ stripe. slice_get (parts_of c.eval.new.view) stripe) (λ stripe. ap (λ v. slice_get (parts_of v) stripe) c.in-Ok.ensures.on.over_same)
+    (record { pass = 0; used = c.self.inside.used }) refl refl c.in-Ok.draft c.in-Ok.ensures.evaluated
+    (c.len-number.result + 1) c.as_slice-changes.result.now (parts_of c.reserve-2.new.self) (ap (λ n. n + 1) (c.len-number.ensures.value ∙ ap length c.reserve.ensures.entries)) c.as_slice-changes.ensures.value (c.reserve-2.ensures.parts ∙ ap parts_of c.in-Ok.ensures.on.over_same))
+
+pub apply-requires-clause-dates : goal.apply-requires-clause-dates
+apply-requires-clause-dates c =
+    date_as (record { entries = c.self.inside.journal.entries; limits = c.self.inside.journal.limits; spare = c.self.inside.journal.spare; stripes = c.self.inside.stripes; used = c.self.inside.used })
     c.self.invariant (record { conn = c.args.conn; index = c.args.index; moment = c.args.moment; request = c.args.request }) c.requires.sound c.requires.built c.requires.moment
     (λ stripe. slice_get (parts_of c.eval.new.view) stripe) (λ stripe. ap (λ v. slice_get (parts_of v) stripe) c.in-Ok.ensures.on.over_same)
     (record { pass = 0; used = c.self.inside.used }) refl refl c.in-Ok.draft c.in-Ok.ensures.evaluated

@@ -3,6 +3,7 @@ use Rattle.inode_tree.specs.Parts.{tree_of}
 use Rattle.inode_tree.specs.Promises.{applied_all}
 use Rattle.inode_tree.specs.Stands.{Stands}
 use Rattle.inode_tree.specs.Stripes.{StripeRecord}
+use Rattle.inode_tree.specs.Views.{HasDates}
 use Rattle.parted_namespace.specs.Namespace.{parts_of}
 use Rattle.engine.specs.Stripes.{AreStripes, LeaveOthers, applied_where, AreChanged}
 use Rattle.engine.proofs.StripeLemmas.{put_back, long_stripes, applied_stripes, applied_parts}
@@ -19,7 +20,8 @@ invariant_of-self c =
     (applied_stripes c.args.written c.args.number c.args.changes.now c.self.inside.stripes.items c.apply_written.new.stripes c.self.invariant
     (subst (λ (xs : List StripeRecord). LeaveOthers c.args.written c.args.number c.args.changes.now (parts_of xs)) same c.requires.others)
     (subst (λ xs. AreChanged (applied_where c.args.written c.args.number c.args.changes.now) xs c.apply_written.new.stripes) c.as_mut_slice.ensures.value c.apply_written.ensures)
-    (subst (λ (xs : List StripeRecord). Stands (applied_all c.args.number c.args.changes.now (parts_of xs)) (tree_of (applied_all c.args.number c.args.changes.now (parts_of xs)))) same c.requires.stands))
+    (subst (λ (xs : List StripeRecord). Stands (applied_all c.args.number c.args.changes.now (parts_of xs)) (tree_of (applied_all c.args.number c.args.changes.now (parts_of xs)))) same c.requires.stands)
+    (subst (λ (xs : List StripeRecord). HasDates (tree_of (applied_all c.args.number c.args.changes.now (parts_of xs)))) same c.requires.dates))
 
 pub returns : goal.returns
 returns c =

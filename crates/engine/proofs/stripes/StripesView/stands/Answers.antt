@@ -12,5 +12,6 @@ returns c =
       parts = parts_of c.self.inside.stripes.items;
       tree = tree_of (parts_of c.self.inside.stripes.items);
       stands = c.self.invariant.stands;
+      dates = c.self.invariant.dates;
       agrees = λ stripe part h. ap (λ xs. slice_get (parts_of xs) stripe) same ∙ h;
     })

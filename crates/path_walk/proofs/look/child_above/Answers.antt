@@ -1,6 +1,6 @@
 use Rattle.std.proofs.Common.{option_map}
 use Rattle.inode_tree.proofs.FirstLinks.{first_child, no_child_above, no_child_of_file}
-use Rattle.op_delete.proofs.links.child_above.Goals as goal
+use Rattle.path_walk.proofs.look.child_above.Goals as goal
 
 pub returns-in-Some : goal.returns-in-Some
 returns-in-Some c =

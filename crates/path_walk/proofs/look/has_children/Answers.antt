@@ -1,5 +1,5 @@
-use Rattle.op_delete.proofs.ChildLemmas.{directory_has, file_has_none}
-use Rattle.op_delete.proofs.links.has_children.Goals as goal
+use Rattle.path_walk.proofs.ChildLemmas.{directory_has, file_has_none}
+use Rattle.path_walk.proofs.look.has_children.Goals as goal
 
 pub returns-in-Directory : goal.returns-in-Directory
 returns-in-Directory c =

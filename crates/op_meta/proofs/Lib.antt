@@ -1,1 +1,2 @@
-pub mod MetaLemmas
+pub mod StepLemmas
+pub mod EditLemmas

@@ -2,6 +2,9 @@ pub mod LineUnique
 pub mod LineLemmas
 pub mod TextLemmas
 pub mod HeadLines
+pub mod FramingLemmas
+pub mod CauseLemmas
 pub mod FindLemmas
+pub mod BodyLemmas
 pub mod ReadLemmas
 pub mod FaultLemmas

@@ -1,98 +1,124 @@
 -- What a reader has read so far, and how its answers follow.
-use Rattle.std.proofs.Common.{◌≡◌, ℕ, Bool, true, false, List, [], ◌++◌, refl, sym, ap, ◌∙◌, subst, append_assoc, append-nil, Option, Some, None, Result, Ok, Err}
-use Rattle.std.specs.Io.KnownBytes.{Consumes}
+use Rattle.std.proofs.Common.{◌≡◌, ◌⊎◌, inl, inr, ℕ, ◌+◌, ◌≤◌, Bool, true, false, List, [], ◌++◌, length, drop, refl, sym, ap, ◌∙◌, subst, append_assoc, append-nil, Option, Some, None, Result, Ok, Err}
+use Rattle.std.specs.Io.KnownBytes.{Consumes, IsAtEnd}
 use Rattle.std.proofs.lemmas.Bool.{false≢true}
-use Rattle.std.proofs.KnownBytes.{Consumes-nil, Consumes-trans}
-use Rattle.http_front.specs.declared.raw.Raw.{Raw}
-use Rattle.http_front.specs.declared.answers.BadHttp.TheVariants.{NotBuilt}
+use Rattle.std.proofs.KnownBytes.{Consumes-trans}
+use Rattle.http_front.specs.declared.limits.TheConstants.{HEAD_MOST}
 use Rattle.http_front.specs.declared.answers.FrontFault.{FrontFault}
 use Rattle.http_front.specs.declared.answers.FrontFault.TheVariants.{Bad, CutShort, ReadFault, NoMemory}
 use Rattle.http_front.specs.declared.answers.Next.{Next}
-use Rattle.http_front.specs.declared.answers.Next.TheVariants.{Request}
-use Rattle.http_front.specs.Requests.{BeginsWithNone}
-use Rattle.http_front.specs.Reads.{IsUnfinished, Reads, Answers}
-use Rattle.http_front.specs.Looks.{Looks}
-use Rattle.http_front.specs.Fills.{Outside, Fills, FillsMore}
+use Rattle.http_front.specs.declared.find.Head.{Head}
+use Rattle.http_front.specs.declared.find.Found.TheVariants as found
+use Rattle.http_front.specs.Reads.{Reads, Answers, AwaitsHead, BeginsWithHead, TakesNoMore, GivesEnd}
+use Rattle.http_front.specs.Finds.{FindsHead}
+use Rattle.http_front.specs.Steps.{MeetsHead, AwaitsMeeting, Finishes, EndsWith}
+use Rattle.http_front.specs.Fills.{Outside, Fills, FillsNone}
+use Rattle.http_front.proofs.CauseLemmas.{unfinished_begins_none}
 
--- bytes were read, and those that are kept begin with no complete request
-pub record ReadsOn (before after : Outside) (old new : List ℕ) : Type 0 where
-  pub taken : List ℕ
-  pub consumes : Consumes before.left after.left taken
-  pub grown : new ≡ old ++ taken
-  pub counted : after.faults ≡ before.faults
-  pub unfinished : IsUnfinished new
-  pub begins_with_none : BeginsWithNone new
-
--- the bytes so far, and one read more
+-- bytes were read
 pub record HasRead (before after : Outside) (old new : List ℕ) : Type 0 where
   pub taken : List ℕ
   pub consumes : Consumes before.left after.left taken
   pub grown : new ≡ old ++ taken
   pub counted : after.faults ≡ before.faults
 
-pub HasRead-more : (before middle after : Outside) (old kept new : List ℕ) (room : ℕ) → ReadsOn before middle old kept
-    → FillsMore middle after kept new room → HasRead before after old new
-HasRead-more before middle after old kept new room so_far more = record {
-  taken = so_far.taken ++ more.taken;
-  consumes = Consumes-trans before.left middle.left after.left so_far.taken more.taken so_far.consumes more.consumes;
-  grown = more.grown ∙ ap (λ (t : List ℕ). t ++ more.taken) so_far.grown ∙ append_assoc old so_far.taken more.taken;
-  counted = more.counted ∙ so_far.counted;
+-- one read that gave nothing
+pub HasRead-ended : (before middle after : Outside) (old kept new : List ℕ) → HasRead before middle old kept → FillsNone middle after kept new
+    → HasRead before after old new
+HasRead-ended before middle after old kept new so_far none = record {
+  taken = so_far.taken ++ [];
+  consumes = Consumes-trans before.left middle.left after.left so_far.taken [] so_far.consumes none.consumes;
+  grown = none.stays ∙ so_far.grown ∙ ap (λ (t : List ℕ). old ++ t) (sym (append-nil so_far.taken));
+  counted = none.counted ∙ so_far.counted;
 }
 
--- the same of the answer of the read
-pub HasRead-filled : (before middle after : Outside) (old kept new : List ℕ) (room : ℕ) (some : Bool) → ReadsOn before middle old kept
-    → some ≡ true → Fills middle after kept new room (Ok some) → HasRead before after old new
-HasRead-filled before middle after old kept new room true so_far is fills = HasRead-more before middle after old kept new room so_far fills
-HasRead-filled before middle after old kept new room false so_far is fills = absurd (false≢true is)
+-- what was taken behind a fault of the read
+pub record HasTaken (left left' : Option (List ℕ)) (old new : List ℕ) : Type 0 where
+  pub taken : List ℕ
+  pub consumes : Consumes left left' taken
+  pub grown : new ≡ old ++ taken
 
--- nothing is read yet
-pub ReadsOn-none : (outside : Outside) (old : List ℕ) → IsUnfinished old → BeginsWithNone old → ReadsOn outside outside old old
-ReadsOn-none outside old unfinished none = record {
-  taken = [];
-  consumes = Consumes-nil outside.left;
-  grown = sym (append-nil old);
-  counted = refl;
-  unfinished = unfinished;
-  begins_with_none = none;
+pub HasTaken-read : (before after : Outside) (old new : List ℕ) → HasRead before after old new → HasTaken before.left after.left old new
+HasTaken-read before after old new so_far = record { taken = so_far.taken; consumes = so_far.consumes; grown = so_far.grown }
+
+-- ---- the wait for a head
+
+pub Awaits-taken : (left left' : Option (List ℕ)) (old new : List ℕ) (result : Result (Option Head) FrontFault) → HasTaken left left' old new
+    → MeetsHead new left' result → AwaitsMeeting left left' old new result
+Awaits-taken left left' old new result so_far meets =
+    record { taken = so_far.taken; consumes = so_far.consumes; grown = so_far.grown; meets = meets }
+
+-- the end of the source is one
+pub MeetsHead-end : (bytes : List ℕ) (left : Option (List ℕ)) (result : Result (Option Head) FrontFault) → AwaitsHead bytes → IsAtEnd left
+    → EndsWith bytes result → MeetsHead bytes left result
+MeetsHead-end bytes left (Ok (Some head)) awaits at_end ends = absurd ends
+MeetsHead-end bytes left (Ok None) awaits at_end ends = record { none = ends; at_end = at_end }
+MeetsHead-end bytes left (Err (Bad bad)) awaits at_end ends = absurd ends
+MeetsHead-end bytes left (Err (CutShort count)) awaits at_end ends = record {
+  count_is = ends.0;
+  some = ends.1;
+  unfinished = inl awaits;
+  begins_with_none = unfinished_begins_none bytes (inl awaits);
+  at_end = at_end;
 }
+MeetsHead-end bytes left (Err ReadFault) awaits at_end ends = absurd ends
+MeetsHead-end bytes left (Err NoMemory) awaits at_end ends = absurd ends
 
--- the bytes say nothing yet
-pub ReadsOn-more : (before after : Outside) (old kept new : List ℕ) (found : Option Raw) → HasRead before after old kept
-    → found ≡ None → Looks kept new (Ok found) → ReadsOn before after old new
-ReadsOn-more before after old kept new None so_far is on = record {
-  taken = so_far.taken;
-  consumes = so_far.consumes;
-  grown = on.stays ∙ so_far.grown;
-  counted = so_far.counted;
-  unfinished = subst (λ (t : List ℕ). IsUnfinished t) (sym on.stays) on.unfinished;
-  begins_with_none = subst (λ (t : List ℕ). BeginsWithNone t) (sym on.stays) on.begins_with_none;
-}
-ReadsOn-more before after old kept new (Some raw) so_far is on = cc
+pub Awaits-end : (before middle after : Outside) (old kept new : List ℕ) (room : ℕ) (some : Bool) (result : Result (Option Head) FrontFault)
+    → HasRead before middle old kept → some ≡ false → Fills middle after kept new room (Ok some) → AwaitsHead kept → EndsWith new result
+    → AwaitsMeeting before.left after.left old new result
+Awaits-end before middle after old kept new room true result so_far is fills awaits ends = absurd (false≢true (sym is))
+Awaits-end before middle after old kept new room false result so_far is fills awaits ends =
+    Awaits-taken before.left after.left old new result (HasTaken-read before after old new (HasRead-ended before middle after old kept new so_far fills))
+    (MeetsHead-end new after.left result (subst (λ (t : List ℕ). AwaitsHead t) (sym fills.stays) awaits) fills.at_end ends)
 
--- the answer of the bytes kept is an answer of the call
-Reads-look : (before after : Outside) (old kept new : List ℕ) (result : Result Next FrontFault) → HasRead before after old kept
-    → Answers kept after.left new result → Reads before.left after.left old new result
-Reads-look before after old kept new result so_far answers = record {
-  taken = so_far.taken;
-  consumes = so_far.consumes;
-  answers = subst (λ (t : List ℕ). Answers t after.left new result) so_far.grown answers;
-}
+-- ---- the answers
 
-pub Reads-request : (before after : Outside) (old kept new : List ℕ) (found : Option Raw) (raw : Raw) → HasRead before after old kept
-    → found ≡ Some raw → Looks kept new (Ok found) → Reads before.left after.left old new (Ok (Request raw))
-Reads-request before after old kept new found raw so_far is looks =
-    Reads-look before after old kept new (Ok (Request raw)) so_far
-    (subst (λ (o : Option Raw). Looks kept new (Ok o)) is looks)
+-- a fault of the wait is the answer
+pub Answers-meets : (bytes : List ℕ) (left : Option (List ℕ)) (kept : List ℕ) (fault : FrontFault) → MeetsHead bytes left (Err fault)
+    → Answers bytes left kept (Err fault)
+Answers-meets bytes left kept (Bad bad) meets = meets
+Answers-meets bytes left kept (CutShort count) meets = meets
+Answers-meets bytes left kept ReadFault meets = tt
+Answers-meets bytes left kept NoMemory meets = tt
 
--- what a look answers without a request is an answer
-pub Answers-look : (left : Option (List ℕ)) (kept new : List ℕ) (fault : FrontFault) → Looks kept new (Err fault)
-    → Answers kept left new (Err fault)
-Answers-look left kept new (Bad NotBuilt) looks = looks
-Answers-look left kept new (CutShort count) looks = absurd looks
-Answers-look left kept new ReadFault looks = absurd looks
-Answers-look left kept new NoMemory looks = looks
+takes_no_more : (old kept first more : List ℕ) (head : Head) → kept ≡ old ++ first → length kept ≤ HEAD_MOST → FindsHead kept head
+    → (more ≡ []) ⊎ (length (drop head.head_bytes kept) + length more ≤ head.body_bytes) → TakesNoMore old (first ++ more)
+takes_no_more old kept first more head grown few finds (inl none) =
+    let same : old ++ (first ++ more) ≡ kept = ap (λ (t : List ℕ). old ++ (first ++ t)) none ∙ ap (λ (t : List ℕ). old ++ t) (append-nil first) ∙ sym grown in
+    inl (subst (λ (t : List ℕ). length t ≤ HEAD_MOST) (sym same) few)
+takes_no_more old kept first more head grown few finds (inr missing) = inr (record {
+  first = first;
+  more = more;
+  parts = refl;
+  few = subst (λ (t : List ℕ). length t ≤ HEAD_MOST) grown few;
+  head = finds.text;
+  rest = drop head.head_bytes kept;
+  begins = subst (λ (t : List ℕ). BeginsWithHead t finds.text (drop head.head_bytes kept)) grown finds.begins;
+  many = head.body_bytes;
+  tells = finds.tells;
+  missing = missing;
+})
 
-pub Reads-fault : (before after : Outside) (old kept new : List ℕ) (fault : FrontFault) → HasRead before after old kept
-    → Looks kept new (Err fault) → Reads before.left after.left old new (Err fault)
-Reads-fault before after old kept new fault so_far looks =
-    Reads-look before after old kept new (Err fault) so_far (Answers-look after.left kept new fault looks)
+-- what follows a head is the answer
+pub Reads-finish : (left middle left' : Option (List ℕ)) (old kept new : List ℕ) (head : Head) (result : Result Next FrontFault)
+    → AwaitsMeeting left middle old kept (Ok (Some head)) → length kept ≤ HEAD_MOST → Finishes middle left' kept new head result
+    → Reads left left' old new result
+Reads-finish left middle left' old kept new head result awaits few finishes =
+    let all : kept ++ finishes.taken ≡ old ++ (awaits.taken ++ finishes.taken) =
+    ap (λ (t : List ℕ). t ++ finishes.taken) awaits.grown ∙ append_assoc old awaits.taken finishes.taken in
+    record {
+      taken = awaits.taken ++ finishes.taken;
+      consumes = Consumes-trans left middle left' awaits.taken finishes.taken awaits.consumes finishes.consumes;
+      no_more = takes_no_more old kept awaits.taken finishes.taken head awaits.grown few awaits.meets finishes.no_more;
+      answers = subst (λ (t : List ℕ). Answers t left' new result) all finishes.answers;
+    }
+
+-- where nothing was read
+pub kept_end : (left left' : Option (List ℕ)) (old new : List ℕ) → AwaitsMeeting left left' old new (Ok None) → new ≡ old → GivesEnd old left'
+kept_end left left' old new awaits same = subst (λ (t : List ℕ). GivesEnd t left') same awaits.meets
+
+pub kept_fault : (left left' : Option (List ℕ)) (old new kept : List ℕ) (fault : FrontFault) → AwaitsMeeting left left' old new (Err fault) → new ≡ old
+    → Answers old left' kept (Err fault)
+kept_fault left left' old new kept fault awaits same =
+    subst (λ (t : List ℕ). Answers t left' kept (Err fault)) same (Answers-meets new left' kept fault awaits.meets)

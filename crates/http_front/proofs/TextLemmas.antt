@@ -1,33 +1,45 @@
 -- What the definitions of a request say of its text.
-use Rattle.std.proofs.Common.{◌≡◌, ℕ, ◌≤◌, List, [], ◌∷◌, ◌++◌, length, refl, sym, ap, ◌∙◌, subst, arith, append_assoc, append-nil, length-append}
-use Rattle.std.specs.Prelude.{codes}
+use Rattle.std.proofs.Common.{◌≡◌, ℕ, ◌≤◌, List, [], ◌∷◌, ◌++◌, length, refl, sym, ap, ◌∙◌, subst, arith, append_assoc, append-nil, length-append, Some}
 use Rattle.std.specs.List.{flat_map}
 use Rattle.std.proofs.lemmas.List.Elements.{All-head, All-tail}
 use Rattle.httparse.specs.Grammar.{RequestHead, IsRequestHead, print_request, print_blank, print_version, print_end, print_section, ReadsRequest, HasNoRequest}
 use Rattle.httparse.proofs.GrammarLemmas.{request_unique, print_request-append}
-use Rattle.http_front.specs.Looks.{LooksOn}
-use Rattle.http_front.specs.Requests.{RequestText, print_text, headers_of, values_of, HasLength, IsComplete, Begins, BeginsWithNone, IsUnique}
+use Rattle.http_front.specs.Reads.{AwaitsHead}
+use Rattle.http_front.specs.Requests.{RequestText, print_text, headers_in, TellsBody, IsComplete, Begins, BeginsWithNone, IsUnique}
 
 -- the head of a complete request is read from its bytes
 pub Begins-reads : (bytes : List ℕ) (t : RequestText) (rest : List ℕ) → Begins bytes t rest → ReadsRequest bytes t.head (t.body ++ rest)
 unfolding print_text
 Begins-reads bytes t rest begins = (begins.0.head, begins.1 ∙ append_assoc (print_request t.head) t.body rest)
 
--- headers give one body its length
-HasLength_unique : (values : List (List ℕ)) (a b r q : List ℕ) → HasLength values a → HasLength values b → a ++ r ≡ b ++ q
-    → (a ≡ b) × (r ≡ q)
-HasLength_unique [] a b r q x y e = (x ∙ sym y, sym (ap (λ (t : List ℕ). t ++ r) x) ∙ e ∙ ap (λ (t : List ℕ). t ++ q) y)
-HasLength_unique (v ∷ []) a b r q x y e =
-    (x.1 ∙ sym y.1, sym (ap (λ (t : List ℕ). t ++ r) x.1) ∙ e ∙ ap (λ (t : List ℕ). t ++ q) y.1)
-HasLength_unique (v ∷ w ∷ vs) a b r q x y e = absurd x
+-- two fronts of one length are one
+split_same : (a b r q : List ℕ) → length a ≡ length b → a ++ r ≡ b ++ q → (a ≡ b) × (r ≡ q)
+split_same [] [] r q n e = (refl, e)
+split_same [] (y ∷ b) r q n e = absurd (omega arith)
+split_same (x ∷ a) [] r q n e = absurd (omega arith)
+split_same (x ∷ a) (y ∷ b) r q n e =
+    let less : length a ≡ length b = omega arith in
+    let tails = split_same a b r q less (cc) in
+    let first : x ≡ y = cc in
+    (λ i. first i ∷ tails.0 i, tails.1)
+
+some_same : (m n : ℕ) → Some m ≡ Some n → m ≡ n
+some_same m n e = cc
+
+-- headers tell one length
+pub tells_once : (headers : List (List ℕ × List ℕ)) (m n : ℕ) → TellsBody headers m → TellsBody headers n → m ≡ n
+tells_once headers m n x y = some_same m n (sym x.length_is ∙ y.length_is)
+
+-- the body that the head of a complete request tells
+pub tells_of : (head : RequestHead) (t : RequestText) → t.head ≡ head → IsComplete t → TellsBody (headers_in head) (length t.body)
+tells_of head t same complete = subst (λ (h : RequestHead). TellsBody (headers_in h) (length t.body)) same complete.body
 
 -- bytes begin with one complete request at most
 pub Begins_unique : (bytes : List ℕ) (t u : RequestText) (r q : List ℕ) → Begins bytes t r → Begins bytes u q → (t ≡ u) × (r ≡ q)
 Begins_unique bytes t u r q x y =
     let heads = request_unique bytes t.head u.head (t.body ++ r) (u.body ++ q) (Begins-reads bytes t r x) (Begins-reads bytes u q y) in
-    let P : RequestHead → Type 0 = λ h. HasLength (values_of (codes "content-length") (headers_of (record { head = h; body = [] }))) t.body in
-    let first : HasLength (values_of (codes "content-length") (headers_of u)) t.body = subst P heads.0 x.0.body.length_is in
-    let bodies = HasLength_unique _ t.body u.body r q first y.0.body.length_is heads.1 in
+    let first = tells_of u.head t heads.0 x.0 in
+    let bodies = split_same t.body u.body r q (tells_once (headers_in u.head) (length t.body) (length u.body) first y.0.body) heads.1 in
     (λ i. record { head = heads.0 i; body = bodies.0 i }, bodies.1)
 
 -- a head has at least one byte
@@ -72,15 +84,11 @@ no_head h rest reads =
     omega arith
 
 -- without a byte there is room and no request
-pub LooksOn-empty : (bytes : List ℕ) → length bytes ≡ 0 → LooksOn bytes bytes
-LooksOn-empty [] none = record {
-  stays = refl;
-  unfinished = record {
-    no_head = no_head;
-    short = omega arith;
-    not_crowded = λ crowded. let no : ⊥ = omega (arith, ap length crowded.whole, length-append (flat_map (λ line. line) crowded.empty_lines ++ flat_map (λ line. line) crowded.full_lines) (crowded.next ∷ crowded.more)) in no;
-    goes_on = λ some. absurd (omega arith);
-  };
-  begins_with_none = BeginsWithNone-nil;
+pub AwaitsHead-empty : (bytes : List ℕ) → length bytes ≡ 0 → AwaitsHead bytes
+AwaitsHead-empty [] none = record {
+  no_head = no_head;
+  short = omega arith;
+  not_crowded = λ crowded. let no : ⊥ = omega (arith, ap length crowded.whole, length-append (flat_map (λ line. line) crowded.empty_lines ++ flat_map (λ line. line) crowded.full_lines) (crowded.next ∷ crowded.more)) in no;
+  goes_on = λ some. absurd (omega arith);
 }
-LooksOn-empty (b ∷ bytes) none = absurd (omega arith)
+AwaitsHead-empty (b ∷ bytes) none = absurd (omega arith)

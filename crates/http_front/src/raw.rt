@@ -1,4 +1,5 @@
 ghost use Rattle.std.specs.Prelude.{◌≡◌, IfOk};
+ghost use Rattle.http_front.specs.Finds.{raw_from};
 
 use file_data::{Piece, SharedPiece};
 use head_text::HeaderList;
@@ -30,6 +31,40 @@ impl Raw {
             minor: self.minor,
             headers: self.headers.copy(alloc)?,
             body: self.body.copy()?,
+        })
+    }
+}
+
+/// The parts of a head.
+#[derive(Drop)]
+pub struct Parts {
+    /// The method.
+    pub method: Piece,
+    /// The request target.
+    pub target: Piece,
+    /// The minor version.
+    pub minor: u8,
+    /// The headers in their order.
+    pub headers: HeaderList,
+}
+
+impl Parts {
+    /// The request of this head and this body. The one error is want of memory.
+    pub fn with_body(self, alloc: Global, body: Vec<u8>) -> Result<Raw, AllocError>
+        ensures { IfOk result (λ raw. raw ≡ raw_from self body.items) }
+    {
+        let Parts {
+            method,
+            target,
+            minor,
+            headers,
+        } = self;
+        Ok(Raw {
+            method,
+            target,
+            minor,
+            headers,
+            body: SharedPiece::new(alloc, Piece::new(body))?,
         })
     }
 }

@@ -1,4 +1,4 @@
-ghost use Rattle.std.specs.Prelude.{◌<◌, ◌≤◌};
+ghost use Rattle.std.specs.Prelude.{◌≡◌, ◌+◌, ◌<◌, ◌≤◌, length, vec_len, vec_capacity};
 ghost use Rattle.http_front.specs.Fills.{Fills};
 
 use super::answers::FrontFault;
@@ -6,9 +6,6 @@ use super::limits::HEAD_MOST;
 use conn_io::{Failed, Source};
 use std::alloc::Global;
 use std::marker::Model;
-
-// How much one read asks for at most, in bytes.
-const READ_MOST: usize = 4_096;
 
 /// The bytes that were read and belong to no request yet, at most as many as a head may have. A contract sees the list of them.
 #[derive(Drop)]
@@ -71,34 +68,46 @@ impl Window {
         }
     }
 
-    /// Reads once and keeps what came: `true` where some bytes came, `false` where the source gave none. `ReadFault` comes only where the
-    /// source's count of faults rose, and `NoMemory` before the source is asked; no byte is lost at either.
+    /// Drops all bytes.
+    pub fn clear(&mut self)
+        ensures { self.new ≡ [] }
+    {
+        self.bytes.clear();
+        self.start = 0;
+    }
+
+    /// Reads once, as many bytes as a head may still have, and keeps what came: `true` where some bytes came, `false` where the source
+    /// gave none. `ReadFault` comes only where the source's count of faults rose, and `NoMemory` before the source is asked; no byte is
+    /// lost at either.
     pub fn fill<S: Source>(&mut self, source: &mut S) -> Result<bool, FrontFault>
         requires { length self.old < HEAD_MOST }
         ensures few { length self.new ≤ HEAD_MOST }
         ensures fills { Fills (record { left = S.left source.old; faults = S.faults source.old }) (record { left = S.left source.new; faults = S.faults source.new }) self.old self.new HEAD_MOST result }
     {
         self.settle();
-        let room = (HEAD_MOST - (self.bytes.len() - self.start)).min(READ_MOST);
-        read_more(&mut self.bytes, room, source)
+        let room = HEAD_MOST - (self.bytes.len() - self.start);
+        if self.bytes.reserve(room).is_err() {
+            return Err(FrontFault::NoMemory);
+        }
+        let mut buffer = [0u8; HEAD_MOST];
+        read_more(&mut self.bytes, room, &mut buffer, source)
     }
 }
 
-// One read of at most `room` bytes behind those that are there.
-fn read_more<S: Source>(
+/// One read of at most `most` bytes, which go through the buffer, behind those that are there.
+pub fn read_more<S: Source>(
     bytes: &mut Vec<u8>,
-    room: usize,
+    most: usize,
+    buffer: &mut [u8],
     source: &mut S,
 ) -> Result<bool, FrontFault>
-    requires some { 0 < room }
-    requires few { room ≤ READ_MOST }
-    ensures { Fills (record { left = S.left source.old; faults = S.faults source.old }) (record { left = S.left source.new; faults = S.faults source.new }) bytes.old.items bytes.new.items room result }
+    requires some { 0 < most }
+    requires fits { most ≤ length buffer.old }
+    requires room { vec_len bytes.old + most ≤ vec_capacity bytes.old }
+    ensures fills { Fills (record { left = S.left source.old; faults = S.faults source.old }) (record { left = S.left source.new; faults = S.faults source.new }) bytes.old.items bytes.new.items most result }
+    ensures size { length buffer.new ≡ length buffer.old }
 {
-    if bytes.reserve(room).is_err() {
-        return Err(FrontFault::NoMemory);
-    }
-    let mut buffer = [0u8; READ_MOST];
-    match source.read(&mut buffer[..room]) {
+    match source.read(&mut buffer[..most]) {
         Err(Failed) => Err(FrontFault::ReadFault),
         Ok(0) => Ok(false),
         Ok(count) => match bytes.extend_from_slice(&buffer[..count]) {

@@ -1,5 +1,5 @@
 -- The places of the number, field by field.
-use Rattle.std.proofs.Common.{◌≡◌, ℕ, ◌+◌, ◌<◌, ◌≤◌, Bool, true, false, List, ◌++◌, take, drop, length, get_or, codes, Option, Some, None, refl, sym, ap, ◌∙◌, arith, cond, append_assoc, length-append}
+use Rattle.std.proofs.Common.{◌≡◌, ℕ, ◌+◌, ◌<◌, ◌≤◌, Bool, true, false, List, ◌++◌, take, drop, length, get_or, codes, Option, Some, None, refl, sym, ap, ◌∙◌, arith, cond, append_assoc, append-nil, length-append}
 use Rattle.std.specs.Prelude.{count_by}
 use Rattle.std.proofs.lemmas.List.{take_more, take-append-drop, flat_map_more}
 use Rattle.std.proofs.lemmas.List.Sums.{sum_by-append, count_by_more_yes, count_by_more_no}
@@ -10,8 +10,8 @@ use Rattle.head_text.specs.TagTexts.{etag_text}
 use Rattle.reply_text.specs.declared.slots.Slots.{Slots}
 use Rattle.reply_text.specs.Lines.{line_end, line, field_line, field_lines, status_line, moment_text}
 use Rattle.reply_text.specs.ReplyText.{is_open, start_lines}
-use Rattle.reply_text.specs.Slots.{Spells, filled, behind, slots_with}
-use Rattle.reply_text.proofs.SlotLemmas.{spells_more, spells_behind, spells_first, spells_second}
+use Rattle.reply_text.specs.Slots.{Spells, slots_with}
+use Rattle.reply_text.proofs.SlotLemmas.{spells_more, spells_first, spells_second}
 
 -- the same places, bytes and texts in other words
 spells_as : (id id' : ℕ) (place : Option ℕ) (bytes bytes' : List ℕ) (text text' : ℕ → List ℕ) → id ≡ id' → bytes ≡ bytes' → ((n : ℕ) → text n ≡ text' n)
@@ -34,18 +34,20 @@ start_parts : (status moment n : ℕ) → before_id status moment ++ (hex16 n ++
 unfolding start_lines
 start_parts status moment n = rw number_line (simp append_assoc)
 
-start_parts_too : (status moment n : ℕ) → before_id status moment ++ hex16 n ++ behind_id ≡ start_lines status moment n
-start_parts_too status moment n = append_assoc (before_id status moment) (hex16 n) behind_id ∙ start_parts status moment n
-
--- the start of a reply has its number behind the date line
-pub spells_start : (status moment : ℕ)
-    → Spells (record { id = length (status_line status ++ line (codes "Date") (moment_text moment)) + 17; etag = None }) (start_lines status moment 0) (start_lines status moment)
-spells_start status moment =
-    spells_as (length (before_id status moment)) (length (status_line status ++ line (codes "Date") (moment_text moment)) + 17) None
-    (before_id status moment ++ (hex16 0 ++ behind_id)) (start_lines status moment 0)
-    (λ n. before_id status moment ++ hex16 n ++ behind_id) (start_lines status moment)
-    (length-append (status_line status ++ line (codes "Date") (moment_text moment)) (codes "x-ms-request-id" ++ codes ": "))
-    (start_parts status moment 0) (start_parts_too status moment) (spells_first (before_id status moment) behind_id)
+-- the start of a reply has its number behind the date line, whatever stands before it
+pub spells_start : (front : List ℕ) (status moment id : ℕ) → id ≡ length (front ++ (status_line status ++ line (codes "Date") (moment_text moment))) + 17
+    → Spells (record { id = id; etag = None }) (front ++ start_lines status moment 0) (λ n. front ++ start_lines status moment n)
+spells_start front status moment id place =
+    let lines : List ℕ = status_line status ++ line (codes "Date") (moment_text moment) in
+    let name : List ℕ = codes "x-ms-request-id" ++ codes ": " in
+    spells_as (length (front ++ before_id status moment)) id None
+    ((front ++ before_id status moment) ++ (hex16 0 ++ behind_id)) (front ++ start_lines status moment 0)
+    (λ n. (front ++ before_id status moment) ++ hex16 n ++ behind_id) (λ n. front ++ start_lines status moment n)
+    (ap length (sym (append_assoc front lines name)) ∙ length-append (front ++ lines) name ∙ sym place)
+    (append_assoc front (before_id status moment) (hex16 0 ++ behind_id) ∙ ap (λ t. front ++ t) (start_parts status moment 0))
+    (λ n. append_assoc (front ++ before_id status moment) (hex16 n) behind_id ∙ append_assoc front (before_id status moment) (hex16 n ++ behind_id)
+    ∙ ap (λ t. front ++ t) (start_parts status moment n))
+    (spells_first (front ++ before_id status moment) behind_id)
 
 -- what stands before the number in an ETag line, and behind it
 abbrev before_tag : List ℕ
@@ -156,6 +158,15 @@ stays_free fields i f slots at false closed inside here free none =
     let same = count_by_more_no is_open fields i f inside there in
     rw (kept_places slots at f closed) (free (sym same ∙ none))
 
+-- before the first field
+pub spells_none : (start : ℕ → List ℕ) (fields : List Field) (slots : Slots) (bytes : List ℕ)
+    → bytes ≡ start 0 → Spells slots bytes start → slots.etag ≡ None → SpellsFirst start fields 0 slots bytes
+spells_none start fields slots bytes zeros spelled free = record {
+  zeros = zeros ∙ sym (append-nil (start 0));
+  spelled = record { fits = spelled.fits; text_is = λ n. spelled.text_is n ∙ sym (append-nil (start n)) };
+  free = λ none. free;
+}
+
 pub spells_next : (start : ℕ → List ℕ) (fields : List Field) (i : ℕ) (f : Field) (slots slots' : Slots) (bytes bytes' : List ℕ)
     → i < length fields → f ≡ get_or fields i f → count_by is_open fields ≤ 1
     → SpellsFirst start fields i slots bytes → slots' ≡ slots_with slots (length bytes) f → bytes' ≡ bytes ++ field_line 0 f
@@ -171,11 +182,11 @@ spells_next start fields i f slots slots' bytes bytes' inside here few before pl
       free = λ none. rw places (stays_free fields i f slots (length bytes) (is_open f) refl inside here before.free none);
     }
 
--- the whole reply behind what was there before
-pub spells_whole : (slots : Slots) (bytes before after back : List ℕ) (text : ℕ → List ℕ) → Spells slots bytes text → (n : ℕ)
-    → filled (before ++ ((bytes ++ after) ++ back)) (behind (length before) slots) n ≡ before ++ ((text n ++ after) ++ back)
-spells_whole slots bytes before after back text spells n =
-    let head = spells_more slots bytes after text spells in
-    let all = spells_more slots (bytes ++ after) back (λ n. text n ++ after) head in
-    let moved = spells_behind slots before ((bytes ++ after) ++ back) (λ n. (text n ++ after) ++ back) all in
-    moved.text_is n
+-- the last lines and the body stand behind bytes that have the number
+pub spells_whole : (slots : Slots) (front bytes bytes' after back : List ℕ) (start fields : ℕ → List ℕ) → Spells slots bytes (λ n. (front ++ start n) ++ fields n)
+    → bytes' ≡ (bytes ++ after) ++ back → Spells slots bytes' (λ n. front ++ (((start n ++ fields n) ++ after) ++ back))
+spells_whole slots front bytes bytes' after back start fields spells same =
+    let more = spells_more slots bytes after (λ n. (front ++ start n) ++ fields n) spells in
+    let all = spells_more slots (bytes ++ after) back (λ n. ((front ++ start n) ++ fields n) ++ after) more in
+    let parts : (n : ℕ) → (((front ++ start n) ++ fields n) ++ after) ++ back ≡ front ++ (((start n ++ fields n) ++ after) ++ back) = λ n. simp append_assoc in
+    rw same (record { fits = all.fits; text_is = λ n. all.text_is n ∙ parts n })

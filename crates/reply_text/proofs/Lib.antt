@@ -1,3 +1,4 @@
+pub mod Kept
 pub mod SlotLemmas
 pub mod FieldLemmas
 pub mod Spellable

@@ -1,10 +1,10 @@
 -- Writing a number into bytes that were spelled with another one.
-use Rattle.std.proofs.Common.{◌≡◌, ℕ, ◌+◌, ◌≤◌, List, ◌++◌, take, drop, length, Option, Some, None, option_map, IfSome, refl, ap, arith, add_assoc, append_assoc, length-append, length-drop}
+use Rattle.std.proofs.Common.{◌≡◌, ℕ, ◌+◌, ◌≤◌, List, ◌++◌, take, drop, length, Option, Some, None, IfSome, refl, ap, arith, add_assoc, append_assoc, length-append, length-drop}
 use Rattle.std.proofs.lemmas.List.{take-append-le, drop-append-le, length-take-le}
 use Rattle.std.proofs.Math.Seq.{take-append_seam, take-append-add, drop-append-add}
 use Rattle.head_text.specs.Hex.{hex16}
 use Rattle.reply_text.specs.declared.slots.Slots.{Slots}
-use Rattle.reply_text.specs.Slots.{with_digits, with_digits_in, filled, Spells, behind}
+use Rattle.reply_text.specs.Slots.{with_digits, with_digits_in, filled, Spells}
 
 pub length-hex16 : (n : ℕ) → length (hex16 n) ≡ 16
 unfolding hex16
@@ -36,11 +36,6 @@ length-with_digits bytes n at room =
     rw (length-append (take at bytes ++ hex16 n) (drop (at + 16) bytes), length-append (take at bytes) (hex16 n), length-hex16 n, length-take-le at bytes begins, length-drop (at + 16) bytes)
     (omega arith)
 
-in_behind : (place : Option ℕ) (front bytes : List ℕ) (n : ℕ)
-    → with_digits_in n (option_map (λ at. length front + at) place) (front ++ bytes) ≡ front ++ with_digits_in n place bytes
-in_behind None front bytes n = refl
-in_behind (Some at) front bytes n = with_digits_behind front bytes n at
-
 in_before : (place : Option ℕ) (bytes back : List ℕ) (n : ℕ) → IfSome place (λ at. at + 16 ≤ length bytes)
     → with_digits_in n place (bytes ++ back) ≡ with_digits_in n place bytes ++ back
 in_before None bytes back n room = refl
@@ -49,11 +44,6 @@ in_before (Some at) bytes back n room = with_digits_before bytes back n at room
 room_more : (place : Option ℕ) (few many : ℕ) → few ≤ many → IfSome place (λ at. at + 16 ≤ few) → IfSome place (λ at. at + 16 ≤ many)
 room_more None few many less room = room
 room_more (Some at) few many less room = omega (arith, room)
-
-room_behind : (place : Option ℕ) (before few many : ℕ) → before + few ≤ many → IfSome place (λ at. at + 16 ≤ few)
-    → IfSome (option_map (λ at. before + at) place) (λ at. at + 16 ≤ many)
-room_behind None before few many less room = room
-room_behind (Some at) before few many less room = omega (arith, room)
 
 -- places in bytes are places in those bytes with more behind them
 pub spells_more : (slots : Slots) (bytes back : List ℕ) (text : ℕ → List ℕ) → Spells slots bytes text → Spells slots (bytes ++ back) (λ n. text n ++ back)
@@ -67,20 +57,6 @@ spells_more slots bytes back text spells = record {
       let long : IfSome slots.etag (λ at. at + 16 ≤ length (with_digits n slots.id bytes)) = rw (length-with_digits bytes n slots.id spells.fits.id) spells.fits.etag in
       rw (with_digits_before bytes back n slots.id spells.fits.id, in_before slots.etag (with_digits n slots.id bytes) back n long)
       (ap (λ t. t ++ back) (spells.text_is n));
-}
-
--- places in bytes are later places in those bytes with others before them
-pub spells_behind : (slots : Slots) (front bytes : List ℕ) (text : ℕ → List ℕ) → Spells slots bytes text
-    → Spells (behind (length front) slots) (front ++ bytes) (λ n. front ++ text n)
-unfolding filled
-spells_behind slots front bytes text spells = record {
-  fits = record {
-    id = rw (length-append front bytes) (omega (arith, spells.fits.id));
-    etag = rw (length-append front bytes) (room_behind slots.etag (length front) (length bytes) (length front + length bytes) (omega arith) spells.fits.etag);
-  };
-  text_is = λ n.
-      rw (with_digits_behind front bytes n slots.id, in_behind slots.etag front (with_digits n slots.id bytes) n)
-      (ap (λ t. front ++ t) (spells.text_is n));
 }
 
 -- a first number between a front and a back

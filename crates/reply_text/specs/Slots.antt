@@ -1,5 +1,5 @@
 -- Where the number of a reply stands in its bytes, and what writing it there makes of them.
-use Rattle.std.specs.Prelude.{◌≡◌, ℕ, ◌+◌, ◌≤◌, List, ◌++◌, take, drop, length, Option, Some, None, option_map, IfSome}
+use Rattle.std.specs.Prelude.{◌≡◌, ℕ, ◌+◌, ◌≤◌, List, ◌++◌, take, drop, length, Option, Some, None, IfSome}
 use Rattle.head_text.specs.Hex.{hex16}
 use Rattle.namespace_model.specs.declared.field.Field.{Field}
 use Rattle.namespace_model.specs.declared.field.Field.TheVariants.{ETag}
@@ -27,10 +27,6 @@ pub record Fits (slots : Slots) (bytes : List ℕ) : Type 0 where
 pub record Spells (slots : Slots) (bytes : List ℕ) (text : ℕ → List ℕ) : Type 0 where
   pub fits : Fits slots bytes
   pub text_is : (number : ℕ) → filled bytes slots number ≡ text number
-
--- the same places, where the bytes stand behind others
-abbrev pub behind : ℕ → Slots → Slots
-behind place slots = record { id = place + slots.id; etag = option_map (λ at. place + at) slots.etag }
 
 -- the places with one line more, which begins at a place: the digits of an open ETag stand nine bytes behind the line's beginning
 abbrev pub slots_with : Slots → ℕ → Field → Slots

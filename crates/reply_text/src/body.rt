@@ -1,4 +1,4 @@
-ghost use Rattle.std.specs.Prelude.{◌≡◌, ◌++◌, [], OnOk};
+ghost use Rattle.std.specs.Prelude.{◌≡◌, ◌++◌, [], OnOk, take, length, if◌then◌else◌};
 ghost use Rattle.reply_text.specs.ReplyText.{is_bare, body_of, body_text, length_line, stated_length, content_length};
 
 use super::fields::{put_decimal_line, stated_length};
@@ -13,10 +13,10 @@ pub(crate) fn is_bare(reply: &Reply, head: bool) -> bool
     head || reply.status == NOT_MODIFIED
 }
 
-// The body that is written: `fault` is that of the reply's code.
+// The body that is written: `fault` is that of the reply's code, where a body is written.
 #[tactic(auto, unfolding(crate::specs::ReplyText::body_text))]
 pub(crate) fn body_text<'a>(reply: &'a Reply, fault: &'a [u8], head: bool) -> &'a [u8]
-    requires { fault.now ≡ body_of reply.now.code [] }
+    requires { fault.now ≡ (if is_bare reply.now head then [] else body_of reply.now.code []) }
     ensures { result.now ≡ body_text reply.now head }
 {
     if is_bare(reply, head) {
@@ -39,7 +39,7 @@ fn content_length(reply: &Reply, head: bool, body: &[u8]) -> u64
     }
 }
 
-#[tactic(auto, unfolding(crate::specs::ReplyText::length_line))]
+#[tactic(auto, using(crate::proofs::Kept::kept_rules), unfolding(crate::specs::ReplyText::length_line))]
 pub(crate) fn put_length_line(
     out: &mut Vec<u8>,
     reply: &Reply,
@@ -47,7 +47,8 @@ pub(crate) fn put_length_line(
     body: &[u8],
 ) -> Result<(), AllocError>
     requires { body.now ≡ body_text reply.now head }
-    ensures { OnOk result (out.new.items ≡ out.old.items ++ length_line reply.now head) }
+    ensures text { OnOk result (out.new.items ≡ out.old.items ++ length_line reply.now head) }
+    ensures kept { take (length out.old.items) out.new.items ≡ out.old.items }
 {
     if reply.status == NOT_MODIFIED {
         return Ok(());

@@ -1,5 +1,5 @@
-ghost use Rattle.std.specs.Prelude.{◌≡◌, ◌++◌, IfOk, is_ok, if◌then◌else◌};
-ghost use Rattle.reply_text.specs.LastReply.{last_status, last_code, last_reply_text};
+ghost use Rattle.std.specs.Prelude.{◌≡◌, ◌++◌, OnOk, is_ok, take, length, if◌then◌else◌};
+ghost use Rattle.reply_text.specs.LastReply.{bad_status, bad_code, last_status, last_code, last_reply_text};
 
 use super::lines::{put_line, put_open_number_line, put_status_line, put_version_line};
 use http_front::BadHttp;
@@ -11,7 +11,7 @@ const USUAL: usize = 256;
 /// Why a connection ends with a reply that is on no entry.
 #[derive(Clone, Copy, Debug, PartialEq, Eq)]
 pub enum Last {
-    /// The bytes are no request that is taken.
+    /// The bytes are no request that is taken, for this cause.
     Bad(BadHttp),
     /// The journal is full.
     Busy,
@@ -19,35 +19,70 @@ pub enum Last {
 
 /// Appends the reply that ends a connection: it has no date and no body, and a request id of zeros. The one error is want of memory,
 /// and nothing is appended then.
-pub fn last_reply(alloc: Global, last: Last, out: &mut Vec<u8>) -> Result<(), AllocError>
+pub fn last_reply(_alloc: Global, last: Last, out: &mut Vec<u8>) -> Result<(), AllocError>
     ensures { out.new.items ≡
         (if is_ok result then out.old.items ++ last_reply_text last else out.old.items) }
 {
-    let text = last_reply_text(alloc, last)?;
-    out.extend_from_slice(text.as_slice())
+    let kept = out.len();
+    match put_last_reply(out, last) {
+        Ok(()) => Ok(()),
+        Err(error) => {
+            out.truncate(kept);
+            Err(error)
+        }
+    }
 }
 
-#[tactic(auto, unfolding(crate::specs::LastReply::last_reply_text))]
-fn last_reply_text(alloc: Global, last: Last) -> Result<Vec<u8>, AllocError>
-    ensures { IfOk result (λ text. text.items ≡ last_reply_text last) }
+#[tactic(auto, using(crate::proofs::Kept::kept_rules), unfolding(crate::specs::LastReply::last_reply_text))]
+fn put_last_reply(out: &mut Vec<u8>, last: Last) -> Result<(), AllocError>
+    ensures text { OnOk result (out.new.items ≡ out.old.items ++ last_reply_text last) }
+    ensures kept { take (length out.old.items) out.new.items ≡ out.old.items }
 {
-    let mut text = Vec::with_capacity(alloc, USUAL)?;
-    put_status_line(alloc, &mut text, status(last))?;
-    put_open_number_line(&mut text)?;
-    put_version_line(&mut text)?;
-    put_line(&mut text, b"Connection", b"close")?;
-    put_line(&mut text, b"x-ms-error-code", code(last))?;
-    put_line(&mut text, b"Content-Length", b"0")?;
-    text.extend_from_slice(b"\r\n")?;
-    Ok(text)
+    out.reserve(USUAL)?;
+    put_status_line(out, status(last))?;
+    put_open_number_line(out)?;
+    put_version_line(out)?;
+    put_line(out, b"Connection", b"close")?;
+    put_line(out, b"x-ms-error-code", code(last))?;
+    put_line(out, b"Content-Length", b"0")?;
+    out.extend_from_slice(b"\r\n")?;
+    Ok(())
+}
+
+// The status of a refusal of bytes (RFC 9110, section 15.5, and RFC 6585, section 5).
+fn bad_status(bad: BadHttp) -> u16
+    ensures { result ≡ bad_status bad }
+{
+    match bad {
+        BadHttp::NoHead => 400,
+        BadHttp::HeadTooLong => 431,
+        BadHttp::TooManyHeaders => 431,
+        BadHttp::BadLength => 400,
+        BadHttp::NoLength => 411,
+        BadHttp::BodyTooLarge => 413,
+    }
 }
 
 fn status(last: Last) -> u16
     ensures { result ≡ last_status last }
 {
     match last {
-        Last::Bad(BadHttp::NotBuilt) => 400,
+        Last::Bad(bad) => bad_status(bad),
         Last::Busy => 503,
+    }
+}
+
+// The code of a refusal of bytes.
+fn bad_code(bad: BadHttp) -> &'static [u8]
+    ensures { result.now ≡ bad_code bad }
+{
+    match bad {
+        BadHttp::NoHead => b"InvalidInput".as_slice(),
+        BadHttp::HeadTooLong => b"HeadTooLarge".as_slice(),
+        BadHttp::TooManyHeaders => b"HeadTooLarge".as_slice(),
+        BadHttp::BadLength => b"InvalidInput".as_slice(),
+        BadHttp::NoLength => b"MissingContentLengthHeader".as_slice(),
+        BadHttp::BodyTooLarge => b"RequestBodyTooLarge".as_slice(),
     }
 }
 
@@ -55,7 +90,7 @@ fn code(last: Last) -> &'static [u8]
     ensures { result.now ≡ last_code last }
 {
     match last {
-        Last::Bad(BadHttp::NotBuilt) => b"InvalidInput".as_slice(),
+        Last::Bad(bad) => bad_code(bad),
         Last::Busy => b"ServerBusy".as_slice(),
     }
 }

@@ -11,6 +11,7 @@
 #![tactic(auto)]
 
 mod body;
+mod fault;
 mod fields;
 mod last;
 mod lines;

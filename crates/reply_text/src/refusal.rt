@@ -1,46 +1,48 @@
-ghost use Rattle.std.specs.Prelude.{◌≡◌, ◌++◌, [], IfOk, OnOk, string_bytes};
-ghost use Rattle.serde_json.specs.View.{view};
+ghost use Rattle.std.specs.Prelude.{◌≡◌, ◌++◌, [], IfOk, OnOk, take, length, if◌then◌else◌};
 ghost use Rattle.path_text.specs.Targets.{written_path};
-ghost use Rattle.reply_text.specs.ReplyText.{fault_data, fault_body, body_of, code_lines, denial_lines, denied_lines};
+ghost use Rattle.reply_text.specs.Lines.{line};
+ghost use Rattle.reply_text.specs.ReplyText.{fault_body, body_of, code_lines, denial_lines, denied_lines};
 
+use super::fault::Fault;
 use super::lines::put_line;
 use super::values::rule_text;
 use namespace_model::{Code, Denied};
 use path_text::{Path, write_path};
-use serde_json::{Value, json};
+use serde_json::to_vec;
 use std::alloc::{AllocError, Global};
-
-fn fault_value(alloc: Global, code: &str, message: &str) -> Result<Value, AllocError>
-    ensures { IfOk result (λ v. view v ≡ fault_data code.now message.now) }
-{
-    json!(in alloc; {"error": {"code": code, "message": message}})
-}
 
 #[tactic(auto, unfolding(crate::specs::ReplyText::fault_body))]
 fn fault_body(alloc: Global, code: Code) -> Result<Vec<u8>, AllocError>
     ensures { IfOk result (λ body. body.items ≡ fault_body code) }
 {
-    let text = fault_value(alloc, code.name(), code.message())?.to_string(alloc)?;
-    Ok(text.into_bytes())
-}
-
-// The body that follows from a code, and nothing where there is none.
-pub(crate) fn body_of_code(alloc: Global, code: Option<Code>) -> Result<Vec<u8>, AllocError>
-    ensures { IfOk result (λ body. body.items ≡ body_of code []) }
-{
-    match code {
-        Some(code) => fault_body(alloc, code),
-        None => Ok(Vec::new(alloc)),
+    match to_vec(alloc, &Fault { code }) {
+        Ok(text) => Ok(text),
+        Err(_) => Err(AllocError),
     }
 }
 
-#[tactic(auto, unfolding(crate::specs::ReplyText::code_lines))]
+// The body that follows from a code, and nothing where there is none, or where none is written.
+pub(crate) fn body_of_code(
+    alloc: Global,
+    code: Option<Code>,
+    bare: bool,
+) -> Result<Vec<u8>, AllocError>
+    ensures { IfOk result (λ body. body.items ≡ (if bare then [] else body_of code [])) }
+{
+    match code {
+        Some(code) if !bare => fault_body(alloc, code),
+        _ => Ok(Vec::new(alloc)),
+    }
+}
+
+#[tactic(auto, using(crate::proofs::Kept::kept_rules), unfolding(crate::specs::ReplyText::code_lines))]
 pub(crate) fn put_code_lines(
     out: &mut Vec<u8>,
     code: Option<Code>,
     bare: bool,
 ) -> Result<(), AllocError>
-    ensures { OnOk result (out.new.items ≡ out.old.items ++ code_lines code bare) }
+    ensures text { OnOk result (out.new.items ≡ out.old.items ++ code_lines code bare) }
+    ensures kept { take (length out.old.items) out.new.items ≡ out.old.items }
 {
     let Some(code) = code else {
         return Ok(());
@@ -54,35 +56,34 @@ pub(crate) fn put_code_lines(
     Ok(())
 }
 
-fn path_text(alloc: Global, path: &Path) -> Result<Vec<u8>, AllocError>
-    ensures { IfOk result (λ text. text.items ≡ written_path path.now) }
+#[tactic(auto, using(crate::proofs::Kept::kept_rules), unfolding(crate::specs::Lines::line))]
+fn put_path_line(out: &mut Vec<u8>, name: &[u8], path: &Path) -> Result<(), AllocError>
+    ensures text { OnOk result (out.new.items ≡ out.old.items ++ line name.now (written_path path.now)) }
+    ensures kept { take (length out.old.items) out.new.items ≡ out.old.items }
 {
-    let mut text = Vec::new(alloc);
-    write_path(path, &mut text)?;
-    Ok(text)
+    out.extend_from_slice(name)?;
+    out.extend_from_slice(b": ")?;
+    write_path(path, out)?;
+    out.extend_from_slice(b"\r\n")
 }
 
-#[tactic(auto, unfolding(crate::specs::ReplyText::denial_lines))]
-fn put_denial_lines(alloc: Global, out: &mut Vec<u8>, denied: &Denied) -> Result<(), AllocError>
-    ensures { OnOk result (out.new.items ≡ out.old.items ++ denial_lines denied.now) }
+#[tactic(auto, using(crate::proofs::Kept::kept_rules), unfolding(crate::specs::ReplyText::denial_lines))]
+fn put_denial_lines(out: &mut Vec<u8>, denied: &Denied) -> Result<(), AllocError>
+    ensures text { OnOk result (out.new.items ≡ out.old.items ++ denial_lines denied.now) }
+    ensures kept { take (length out.old.items) out.new.items ≡ out.old.items }
 {
-    let path = path_text(alloc, &denied.at)?;
     put_line(out, b"x-ms-denied-rule", rule_text(denied.rule))?;
-    put_line(out, b"x-ms-denied-path", path.as_slice())?;
+    put_path_line(out, b"x-ms-denied-path", &denied.at)?;
     put_line(out, b"x-ms-denied-want", &denied.want.text())?;
-    put_line(out, b"x-ms-denied-have", &denied.have.text())?;
-    Ok(())
+    put_line(out, b"x-ms-denied-have", &denied.have.text())
 }
 
-pub(crate) fn put_denied_lines(
-    alloc: Global,
-    out: &mut Vec<u8>,
-    denied: &Option<Denied>,
-) -> Result<(), AllocError>
-    ensures { OnOk result (out.new.items ≡ out.old.items ++ denied_lines denied.now) }
+pub(crate) fn put_denied_lines(out: &mut Vec<u8>, denied: &Option<Denied>) -> Result<(), AllocError>
+    ensures text { OnOk result (out.new.items ≡ out.old.items ++ denied_lines denied.now) }
+    ensures kept { take (length out.old.items) out.new.items ≡ out.old.items }
 {
     match denied {
-        Some(denied) => put_denial_lines(alloc, out, denied),
+        Some(denied) => put_denial_lines(out, denied),
         None => Ok(()),
     }
 }

@@ -1,4 +1,4 @@
-ghost use Rattle.std.specs.Prelude.{◌≡◌, ◌≤◌, ◌++◌, ◌+◌, ◌^◌, ◌<◌, ℕ, IfOk, OnOk, OnErr, is_ok, length, if◌then◌else◌};
+ghost use Rattle.std.specs.Prelude.{◌≡◌, ◌≤◌, ◌++◌, ℕ, IfOk, OnOk, OnErr, length, take};
 ghost use Rattle.http.specs.StatusCode.{IsStatusCode};
 ghost use Rattle.lease_state.specs.declared.lease.TheConstants.{LAST_MOMENT};
 ghost use Rattle.reply_text.specs.Lines.{field_line, field_lines};
@@ -37,24 +37,9 @@ pub fn spell(
         (out.new.items ≡ out.old.items ++ reply_text reply.now 0 moment head) }
     ensures unchanged { OnErr result (out.new.items ≡ out.old.items) }
 {
-    let fault = body_of_code(alloc, reply.code)?;
-    let body = body_text(reply, fault.as_slice(), head);
-    let (mut text, slots) = open_lines(alloc, reply, moment)?;
-    put_end_lines(alloc, &mut text, reply, head, body)?;
-    let place = out.len();
-    append_both(out, text.as_slice(), body)?;
-    Ok(slots.behind(place))
-}
-
-// Appends both or nothing.
-fn append_both(out: &mut Vec<u8>, front: &[u8], back: &[u8]) -> Result<(), AllocError>
-    ensures { out.new.items ≡
-        (if is_ok result then out.old.items ++ (front.now ++ back.now) else out.old.items) }
-{
     let kept = out.len();
-    out.extend_from_slice(front)?;
-    match out.extend_from_slice(back) {
-        Ok(()) => Ok(()),
+    match put_reply(alloc, reply, moment, head, out) {
+        Ok(slots) => Ok(slots),
         Err(error) => {
             out.truncate(kept);
             Err(error)
@@ -62,43 +47,63 @@ fn append_both(out: &mut Vec<u8>, front: &[u8], back: &[u8]) -> Result<(), Alloc
     }
 }
 
+// Appends the reply, or a beginning of it.
+#[tactic(auto, using(crate::proofs::Kept::kept_rules), unfolding(crate::specs::ReplyText::reply_text))]
+fn put_reply(
+    alloc: Global,
+    reply: &Reply,
+    moment: u64,
+    head: bool,
+    out: &mut Vec<u8>,
+) -> Result<Slots, AllocError>
+    requires reply { CanSpell reply.now }
+    requires moment { moment ≤ LAST_MOMENT }
+    ensures spelled { IfOk result (λ slots. Spells slots out.new.items
+        (λ number. out.old.items ++ reply_text reply.now number moment head)) }
+    ensures zeros { OnOk result
+        (out.new.items ≡ out.old.items ++ reply_text reply.now 0 moment head) }
+    ensures kept { take (length out.old.items) out.new.items ≡ out.old.items }
+{
+    let fault = body_of_code(alloc, reply.code, is_bare(reply, head))?;
+    let body = body_text(reply, fault.as_slice(), head);
+    out.reserve(body.len().saturating_add(USUAL))?;
+    let slots = open_lines(out, reply, moment)?;
+    put_end_lines(out, reply, head, body)?;
+    out.extend_from_slice(body)?;
+    Ok(slots)
+}
+
 // The lines that every reply begins with, and where its number stands.
-#[tactic(auto, unfolding(crate::specs::ReplyText::start_lines))]
-fn begun(alloc: Global, status: u16, moment: u64) -> Result<(Vec<u8>, Slots), AllocError>
+#[tactic(auto, using(crate::proofs::Kept::kept_rules), unfolding(crate::specs::ReplyText::start_lines))]
+fn begun(out: &mut Vec<u8>, status: u16, moment: u64) -> Result<Slots, AllocError>
     requires status { IsStatusCode status }
     requires moment { moment ≤ LAST_MOMENT }
-    ensures zeros { IfOk result (λ begun. begun.0.items ≡ start_lines status moment 0) }
-    ensures spelled { IfOk result (λ begun. Spells begun.1 begun.0.items (start_lines status moment)) }
-    ensures one { IfOk result (λ begun. begun.1.etag ≡ None) }
+    ensures zeros { OnOk result (out.new.items ≡ out.old.items ++ start_lines status moment 0) }
+    ensures spelled { IfOk result (λ slots. Spells slots out.new.items
+        (λ number. out.old.items ++ start_lines status moment number)) }
+    ensures one { IfOk result (λ slots. slots.etag ≡ None) }
+    ensures kept { take (length out.old.items) out.new.items ≡ out.old.items }
 {
-    let mut text = Vec::with_capacity(alloc, USUAL)?;
-    put_status_line(alloc, &mut text, status)?;
-    put_line(&mut text, b"Date", &moment_text(moment))?;
-    let at = text.len();
-    put_open_number_line(&mut text)?;
-    put_version_line(&mut text)?;
-    Ok((
-        text,
-        Slots {
-            id: at + 17,
-            etag: None,
-        },
-    ))
+    put_status_line(out, status)?;
+    put_line(out, b"Date", &moment_text(moment))?;
+    let at = out.len();
+    put_open_number_line(out)?;
+    put_version_line(out)?;
+    Ok(Slots {
+        id: at + 17,
+        etag: None,
+    })
 }
 
 // The line of a field, and where the number stands with it.
-fn put_field(
-    alloc: Global,
-    text: &mut Vec<u8>,
-    slots: Slots,
-    field: &Field,
-) -> Result<Slots, AllocError>
+fn put_field(out: &mut Vec<u8>, slots: Slots, field: &Field) -> Result<Slots, AllocError>
     requires { IsInTime field.now }
-    ensures zeros { OnOk result (text.new.items ≡ text.old.items ++ field_line 0 field.now) }
-    ensures slots { IfOk result (λ with. with ≡ slots_with slots (length text.old.items) field.now) }
+    ensures zeros { OnOk result (out.new.items ≡ out.old.items ++ field_line 0 field.now) }
+    ensures slots { IfOk result (λ with. with ≡ slots_with slots (length out.old.items) field.now) }
+    ensures kept { take (length out.old.items) out.new.items ≡ out.old.items }
 {
-    let at = text.len();
-    put_field_line(alloc, text, field)?;
+    let at = out.len();
+    put_field_line(out, field)?;
     match field {
         Field::ETag(None) => Ok(Slots {
             etag: Some(at + 9),
@@ -109,35 +114,36 @@ fn put_field(
 }
 
 // The lines up to those of the fields.
-fn open_lines(alloc: Global, reply: &Reply, moment: u64) -> Result<(Vec<u8>, Slots), AllocError>
+#[tactic(auto, using(crate::proofs::Kept::kept_rules))]
+fn open_lines(out: &mut Vec<u8>, reply: &Reply, moment: u64) -> Result<Slots, AllocError>
     requires reply { CanSpell reply.now }
     requires moment { moment ≤ LAST_MOMENT }
-    ensures zeros { IfOk result (λ begun.
-        begun.0.items ≡ start_lines reply.now.status moment 0 ++ field_lines 0 reply.now.fields) }
-    ensures spelled { IfOk result (λ begun. Spells begun.1 begun.0.items
-        (λ number. start_lines reply.now.status moment number ++ field_lines number reply.now.fields)) }
+    ensures zeros { OnOk result (out.new.items ≡
+        (out.old.items ++ start_lines reply.now.status moment 0) ++ field_lines 0 reply.now.fields) }
+    ensures spelled { IfOk result (λ slots. Spells slots out.new.items (λ number.
+        (out.old.items ++ start_lines reply.now.status moment number) ++ field_lines number reply.now.fields)) }
+    ensures kept { take (length out.old.items) out.new.items ≡ out.old.items }
 {
-    let (mut text, mut slots) = begun(alloc, reply.status, moment)?;
+    let mut slots = begun(out, reply.status, moment)?;
     for field in reply.fields.items() {
-        slots = put_field(alloc, &mut text, slots, field)?;
+        slots = put_field(out, slots, field)?;
     }
-    Ok((text, slots))
+    Ok(slots)
 }
 
-#[tactic(auto, unfolding(crate::specs::ReplyText::end_lines))]
+#[tactic(auto, using(crate::proofs::Kept::kept_rules), unfolding(crate::specs::ReplyText::end_lines))]
 fn put_end_lines(
-    alloc: Global,
     out: &mut Vec<u8>,
     reply: &Reply,
     head: bool,
     body: &[u8],
 ) -> Result<(), AllocError>
     requires { body.now ≡ body_text reply.now head }
-    ensures { OnOk result (out.new.items ≡ out.old.items ++ end_lines reply.now head) }
+    ensures text { OnOk result (out.new.items ≡ out.old.items ++ end_lines reply.now head) }
+    ensures kept { take (length out.old.items) out.new.items ≡ out.old.items }
 {
     put_code_lines(out, reply.code, is_bare(reply, head))?;
-    put_denied_lines(alloc, out, &reply.denied)?;
+    put_denied_lines(out, &reply.denied)?;
     put_length_line(out, reply, head, body)?;
-    out.extend_from_slice(b"\r\n")?;
-    Ok(())
+    out.extend_from_slice(b"\r\n")
 }

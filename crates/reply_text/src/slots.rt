@@ -33,23 +33,3 @@ fn put_digits(bytes: &mut [u8], at: usize, number: u64)
     write_hex16(number, &mut digits);
     bytes[at..at + 16].copy_from_slice(&digits);
 }
-
-impl Slots {
-    ghost use Rattle.std.specs.Prelude.{◌≡◌, ◌+◌, ◌<◌, ◌^◌, IfSome};
-    ghost use Rattle.reply_text.specs.Slots.{behind};
-
-    // The same places, where the bytes stand behind so many others.
-    pub(crate) fn behind(self, place: usize) -> Slots
-        requires id { place + self.id < 2 ^ 64 }
-        requires etag { IfSome self.etag (λ at. place + at < 2 ^ 64) }
-        ensures { result ≡ behind place self }
-    {
-        Slots {
-            id: place + self.id,
-            etag: match self.etag {
-                Some(at) => Some(place + at),
-                None => None,
-            },
-        }
-    }
-}

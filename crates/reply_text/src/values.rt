@@ -1,14 +1,13 @@
-ghost use Rattle.std.specs.Prelude.{◌≡◌, ◌++◌, OnOk, IfOk};
-ghost use Rattle.head_text.specs.PropertyTexts.{properties_text};
+ghost use Rattle.std.specs.Prelude.{◌≡◌, ◌++◌, OnOk, take, length};
 ghost use Rattle.lease_state.specs.LeaseId.{lease_id_text};
 ghost use Rattle.head_text.specs.TagTexts.{etag_text};
 ghost use Rattle.reply_text.specs.Lines.{range_text, media_text, kind_text, state_text, lock_text, duration_text, rule_text};
 
-use head_text::{Props, write_hex16, write_props};
+use head_text::write_hex16;
 use itoa::Buffer;
 use lease_state::{State, write_lease_id};
 use namespace_model::{Kind, Media, Rule};
-use std::alloc::{AllocError, Global};
+use std::alloc::AllocError;
 
 #[tactic(auto, unfolding(head_text::specs::TagTexts::etag_text))]
 pub(crate) fn etag_text(number: u64) -> [u8; 20]
@@ -21,18 +20,18 @@ pub(crate) fn etag_text(number: u64) -> [u8; 20]
     text
 }
 
-#[tactic(auto, unfolding(crate::specs::Lines::range_text))]
-pub(crate) fn range_text(alloc: Global, from: u64, to: u64, len: u64) -> Result<Vec<u8>, AllocError>
-    ensures { IfOk result (λ text. text.items ≡ range_text from to len) }
+#[tactic(auto, using(crate::proofs::Kept::kept_rules), unfolding(crate::specs::Lines::range_text))]
+pub(crate) fn put_range(out: &mut Vec<u8>, from: u64, to: u64, len: u64) -> Result<(), AllocError>
+    ensures text { OnOk result (out.new.items ≡ out.old.items ++ range_text from to len) }
+    ensures kept { take (length out.old.items) out.new.items ≡ out.old.items }
 {
     let mut digits = Buffer::new();
-    let mut text = Vec::from_slice(alloc, b"bytes ")?;
-    text.extend_from_slice(digits.format(from).as_bytes())?;
-    text.extend_from_slice(b"-")?;
-    text.extend_from_slice(digits.format(to).as_bytes())?;
-    text.extend_from_slice(b"/")?;
-    text.extend_from_slice(digits.format(len).as_bytes())?;
-    Ok(text)
+    out.extend_from_slice(b"bytes ")?;
+    out.extend_from_slice(digits.format(from).as_bytes())?;
+    out.extend_from_slice(b"-")?;
+    out.extend_from_slice(digits.format(to).as_bytes())?;
+    out.extend_from_slice(b"/")?;
+    out.extend_from_slice(digits.format(len).as_bytes())
 }
 
 pub(crate) fn media_text(media: Media) -> &'static [u8]
@@ -51,14 +50,6 @@ pub(crate) fn kind_text(kind: Kind) -> &'static [u8]
         Kind::File => b"file".as_slice(),
         Kind::Directory => b"directory".as_slice(),
     }
-}
-
-pub(crate) fn properties_text(alloc: Global, props: &Props) -> Result<Vec<u8>, AllocError>
-    ensures { IfOk result (λ text. text.items ≡ properties_text props.now) }
-{
-    let mut text = Vec::new(alloc);
-    write_props(props, &mut text)?;
-    Ok(text)
 }
 
 pub(crate) fn state_text(state: State) -> &'static [u8]

@@ -1,8 +1,0 @@
-use Rattle.std.proofs.Common.{ap, Err}
-use Rattle.http_front.proofs.FindLemmas.{error_found}
-use Rattle.http_front.proofs.find.find_request.Goals as goal
-
-pub returns-in-Err : goal.returns-in-Err
-returns-in-Err c =
-    error_found c.args.bytes.now c.in-Err.field-0 c.in-Err.ensures.invalid c.in-Err.ensures.no_room
-    (λ same. c.in-Err.ensures.too_many (ap Err same))

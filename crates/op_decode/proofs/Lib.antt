@@ -1,3 +1,12 @@
-pub mod ReadyLemmas
+pub mod CallerLemmas
+pub mod Fits
+pub mod ReaderLemmas
+pub mod NameLemmas
+pub mod FilesystemLemmas
+pub mod ListingLemmas
+pub mod RenameLemmas
+pub mod BatchLemmas
+pub mod RowLemmas
+pub mod SoundLemmas
 pub mod HeaderLemmas
 pub mod OrderLemmas

@@ -1,26 +1,34 @@
 -- What each check refuses, and what all of them let through.
 use Rattle.std.proofs.Common.{◌≡◌, ℕ, Bool, true, false, cond, List, length, Option, Some, None, Result, Ok, Err, refl, sym, ap, subst, ◌∙◌}
+use Rattle.std.specs.Prelude.{codes}
 use Rattle.http_front.specs.declared.raw.Raw.{Raw}
 use Rattle.namespace_model.specs.declared.caller.Caller.{Caller}
 use Rattle.namespace_model.specs.declared.code.Code.{Code}
-use Rattle.namespace_model.specs.declared.code.Code.TheVariants.{InvalidUri, NotBuiltYet, UnsupportedContentEncoding, UnsupportedHttpVerb}
+use Rattle.namespace_model.specs.declared.code.Code.TheVariants.{InvalidUri, UnsupportedContentEncoding, UnsupportedHttpVerb}
 use Rattle.namespace_model.specs.declared.op.Op.{Op}
 use Rattle.op_decode.specs.declared.asked.Asked.{Asked}
+use Rattle.op_decode.specs.declared.asked.Asks.{Asks}
 use Rattle.op_decode.specs.declared.operation.Operation.{Operation}
 use Rattle.op_decode.specs.Callers.{caller_of}
-use Rattle.op_decode.specs.Decoded.{asked, asked_after_caller, asked_after_target, asked_by, decoded, has_other_encoding, op_for, op_of, refused}
-use Rattle.op_decode.specs.Laws.{IsRefused, IsTaken, PassesAll, PassesCaller, PassesOperation, PassesTarget}
+use Rattle.op_decode.specs.ConditionHeaders.{conditions_in}
+use Rattle.op_decode.specs.Decoded.{asked, asked_after_caller, asked_after_target, asked_by, asks_for, asks_for_row, asks_in, asks_of, decoded, has_other_encoding, refused, with_ids}
+use Rattle.op_decode.specs.HeaderValues.{lease_id_in, source_lease_id_in}
+use Rattle.op_decode.specs.Laws.{IsRefused, IsTaken, PassesAll, PassesCaller, PassesOperation, PassesRow, PassesTarget}
 use Rattle.op_decode.specs.Methods.{method_of}
 use Rattle.op_decode.specs.Operations.{operation_of, takes}
-use Rattle.op_decode.specs.Parameters.{built_op}
-use Rattle.op_decode.specs.Ready.{the_superuser}
+use Rattle.op_decode.specs.Orders.{after}
+use Rattle.op_decode.specs.Rows.{op_of_row}
 use Rattle.op_decode.specs.Targets.{target_of}
-use Rattle.op_decode.specs.Unbuilt.{has_unbuilt_header}
-use Rattle.op_decode.proofs.ReadyLemmas.{IsRightCaller, right_caller}
 
 asked_refused : (raw : Raw) (who : Option Caller) (code : Code) → asked raw ≡ refused who code → IsRefused raw who code
 unfolding decoded
-asked_refused raw who code e = record { op = ap (λ (a : Asked). a.op) e; caller = ap (λ (a : Asked). a.caller) e }
+asked_refused raw who code e = record {
+  op = ap (λ (a : Asked). a.asks.op) e;
+  caller = ap (λ (a : Asked). a.caller) e;
+  conditions = ap (λ (a : Asked). a.asks.cond) e;
+  lease = ap (λ (a : Asked). a.asks.lease) e;
+  source_lease = ap (λ (a : Asked). a.asks.source_lease) e;
+}
 
 encoding_at : (raw : Raw) (b : Bool) → has_other_encoding raw ≡ b
     → asked raw ≡ cond b (refused None UnsupportedContentEncoding) (asked_after_target (target_of raw.target) raw)
@@ -47,95 +55,160 @@ pub caller_refused : (raw : Raw) (path : List (List ℕ)) (query : List (List �
     → caller_of raw ≡ Err code → IsRefused raw None code
 caller_refused raw path query code passes e = asked_refused raw None code (caller_at raw path query (Err code) passes e)
 
-op_at : (raw : Raw) (path : List (List ℕ)) (query : List (List ℕ × List ℕ)) (operation : Option Operation) → PassesCaller raw path query
-    → operation_of (method_of raw) query raw ≡ operation → asked raw ≡ asked_by the_superuser (op_for operation path query raw)
-unfolding op_of
-op_at raw path query operation passes e =
-    caller_at raw path query (Ok the_superuser) passes.target passes.caller
-    ∙ ap (λ (o : Option Operation). asked_by the_superuser (op_for o path query raw)) e
+operation_at : (raw : Raw) (path : List (List ℕ)) (query : List (List ℕ × List ℕ)) (who : Caller) (operation : Option Operation)
+    → PassesCaller raw path query who → operation_of (method_of raw) query raw ≡ operation
+    → asked raw ≡ asked_by who (asks_for operation path query raw)
+unfolding asks_in
+operation_at raw path query who operation passes e =
+    caller_at raw path query (Ok who) passes.target passes.caller
+    ∙ ap (λ (o : Option Operation). asked_by who (asks_for o path query raw)) e
 
-pub operation_refused : (raw : Raw) (path : List (List ℕ)) (query : List (List ℕ × List ℕ)) → PassesCaller raw path query
-    → operation_of (method_of raw) query raw ≡ None → IsRefused raw (Some the_superuser) UnsupportedHttpVerb
-operation_refused raw path query passes e =
-    asked_refused raw (Some the_superuser) UnsupportedHttpVerb (op_at raw path query None passes e)
+pub operation_refused : (raw : Raw) (path : List (List ℕ)) (query : List (List ℕ × List ℕ)) (who : Caller) → PassesCaller raw path query who
+    → operation_of (method_of raw) query raw ≡ None → IsRefused raw (Some who) UnsupportedHttpVerb
+operation_refused raw path query who passes e =
+    asked_refused raw (Some who) UnsupportedHttpVerb (operation_at raw path query who None passes e)
 
-pub parts_refused : (raw : Raw) (path : List (List ℕ)) (query : List (List ℕ × List ℕ)) (operation : Operation) → PassesCaller raw path query
-    → operation_of (method_of raw) query raw ≡ Some operation → takes operation (length path) ≡ false → IsRefused raw (Some the_superuser) InvalidUri
-parts_refused raw path query operation passes e parts =
-    let other = cond (has_unbuilt_header raw) (Err NotBuiltYet) (built_op operation path query) in
-    asked_refused raw (Some the_superuser) InvalidUri
-    (op_at raw path query (Some operation) passes e ∙ ap (λ (b : Bool). asked_by the_superuser (cond b other (Err InvalidUri))) parts)
+parts_at : (raw : Raw) (path : List (List ℕ)) (query : List (List ℕ × List ℕ)) (who : Caller) (operation : Operation) (b : Bool)
+    → PassesCaller raw path query who → operation_of (method_of raw) query raw ≡ Some operation → takes operation (length path) ≡ b
+    → asked raw ≡ asked_by who (cond b (asks_for_row operation path query raw) (Err InvalidUri))
+parts_at raw path query who operation b passes e parts =
+    operation_at raw path query who (Some operation) passes e
+    ∙ ap (λ (b : Bool). asked_by who (cond b (asks_for_row operation path query raw) (Err InvalidUri))) parts
 
-taken_parts : (raw : Raw) (path : List (List ℕ)) (query : List (List ℕ × List ℕ)) (operation : Operation) (b : Bool) → PassesOperation raw path query operation
-    → has_unbuilt_header raw ≡ b → asked raw ≡ asked_by the_superuser (cond b (Err NotBuiltYet) (built_op operation path query))
-taken_parts raw path query operation b passes e =
-    let inner = cond (has_unbuilt_header raw) (Err NotBuiltYet) (built_op operation path query) in
-    op_at raw path query (Some operation) passes.caller passes.operation
-    ∙ ap (λ (b : Bool). asked_by the_superuser (cond b inner (Err InvalidUri))) passes.parts
-    ∙ ap (λ (b : Bool). asked_by the_superuser (cond b (Err NotBuiltYet) (built_op operation path query))) e
+pub parts_refused : (raw : Raw) (path : List (List ℕ)) (query : List (List ℕ × List ℕ)) (who : Caller) (operation : Operation)
+    → PassesCaller raw path query who → operation_of (method_of raw) query raw ≡ Some operation → takes operation (length path) ≡ false
+    → IsRefused raw (Some who) InvalidUri
+parts_refused raw path query who operation passes e parts =
+    asked_refused raw (Some who) InvalidUri (parts_at raw path query who operation false passes e parts)
 
-pub unbuilt_refused : (raw : Raw) (path : List (List ℕ)) (query : List (List ℕ × List ℕ)) (operation : Operation) → PassesOperation raw path query operation
-    → has_unbuilt_header raw ≡ true → IsRefused raw (Some the_superuser) NotBuiltYet
-unbuilt_refused raw path query operation passes e =
-    asked_refused raw (Some the_superuser) NotBuiltYet (taken_parts raw path query operation true passes e)
+row_at : (raw : Raw) (path : List (List ℕ)) (query : List (List ℕ × List ℕ)) (who : Caller) (operation : Operation) (row : Result Op Code)
+    → PassesOperation raw path query who operation → op_of_row operation path query raw ≡ row
+    → asked raw ≡ asked_by who (after row (λ op. asks_of op raw))
+row_at raw path query who operation row passes e =
+    parts_at raw path query who operation true passes.caller passes.operation passes.parts
+    ∙ ap (λ (r : Result Op Code). asked_by who (after r (λ op. asks_of op raw))) e
+
+pub row_refused : (raw : Raw) (path : List (List ℕ)) (query : List (List ℕ × List ℕ)) (who : Caller) (operation : Operation) (code : Code)
+    → PassesOperation raw path query who operation → op_of_row operation path query raw ≡ Err code → IsRefused raw (Some who) code
+row_refused raw path query who operation code passes e =
+    asked_refused raw (Some who) code (row_at raw path query who operation (Err code) passes e)
+
+-- ---- the lease ids
+
+abbrev given : Raw → Result (Option ℕ) Code
+given raw = lease_id_in (codes "x-ms-lease-id") raw
+
+abbrev given_source : Raw → Result (Option ℕ) Code
+given_source raw = source_lease_id_in raw
+
+abbrev source_after : Op → Raw → Option ℕ → Result (Option ℕ) Code → Result Asks Code
+source_after op raw lease source = after source (λ source. Ok (with_ids op raw lease source))
+
+lease_at : (raw : Raw) (path : List (List ℕ)) (query : List (List ℕ × List ℕ)) (who : Caller) (operation : Operation) (op : Op)
+    (lease : Result (Option ℕ) Code) → PassesRow raw path query who operation op → given raw ≡ lease
+    → asked raw ≡ asked_by who (after lease (λ lease. source_after op raw lease (given_source raw)))
+unfolding asks_of
+lease_at raw path query who operation op lease passes e =
+    row_at raw path query who operation (Ok op) passes.operation passes.row
+    ∙ ap (λ (r : Result (Option ℕ) Code). asked_by who (after r (λ lease. source_after op raw lease (given_source raw)))) e
+
+pub lease_refused : (raw : Raw) (path : List (List ℕ)) (query : List (List ℕ × List ℕ)) (who : Caller) (operation : Operation) (op : Op) (code : Code)
+    → PassesRow raw path query who operation op → given raw ≡ Err code → IsRefused raw (Some who) code
+lease_refused raw path query who operation op code passes e =
+    asked_refused raw (Some who) code (lease_at raw path query who operation op (Err code) passes e)
+
+source_at : (raw : Raw) (path : List (List ℕ)) (query : List (List ℕ × List ℕ)) (who : Caller) (operation : Operation) (op : Op)
+    (lease : Option ℕ) (source : Result (Option ℕ) Code) → PassesRow raw path query who operation op → given raw ≡ Ok lease → given_source raw ≡ source
+    → asked raw ≡ asked_by who (source_after op raw lease source)
+source_at raw path query who operation op lease source passes e f =
+    lease_at raw path query who operation op (Ok lease) passes e
+    ∙ ap (λ (r : Result (Option ℕ) Code). asked_by who (source_after op raw lease r)) f
+
+pub source_refused : (raw : Raw) (path : List (List ℕ)) (query : List (List ℕ × List ℕ)) (who : Caller) (operation : Operation) (op : Op)
+    (lease : Option ℕ) (code : Code) → PassesRow raw path query who operation op → given raw ≡ Ok lease → given_source raw ≡ Err code
+    → IsRefused raw (Some who) code
+source_refused raw path query who operation op lease code passes e f =
+    asked_refused raw (Some who) code (source_at raw path query who operation op lease (Err code) passes e f)
 
 -- ---- what is not refused
 
-refused_is_not_taken : (raw : Raw) (who : Option Caller) (code : Code) (o : Op) → asked raw ≡ refused who code → (asked raw).op ≡ o → IsTaken o → ⊥
-refused_is_not_taken raw who code o e is taken = subst IsTaken (sym is ∙ ap (λ (a : Asked). a.op) e) taken
+refused_is_not_taken : (raw : Raw) (who : Option Caller) (code : Code) (o : Op) → asked raw ≡ refused who code → (asked raw).asks.op ≡ o → IsTaken o → ⊥
+refused_is_not_taken raw who code o e is taken = subst IsTaken (sym is ∙ ap (λ (a : Asked). a.asks.op) e) taken
 
-taken_op : (raw : Raw) (path : List (List ℕ)) (query : List (List ℕ × List ℕ)) (operation : Operation) (o : Op) → PassesOperation raw path query operation
-    → has_unbuilt_header raw ≡ false → (asks : Result Op Code) → built_op operation path query ≡ asks → (asked raw).op ≡ o → IsTaken o → PassesAll raw o
-taken_op raw path query operation o passes headers (Err code) e is taken =
-    absurd (refused_is_not_taken raw (Some the_superuser) code o (taken_parts raw path query operation false passes headers ∙ ap (asked_by the_superuser) e) is taken)
-taken_op raw path query operation o passes headers (Ok op) e is taken =
-    let at : asked raw ≡ asked_by the_superuser (Ok op) = taken_parts raw path query operation false passes headers ∙ ap (asked_by the_superuser) e in
-    let same : op ≡ o = sym (ap (λ (a : Asked). a.op) at) ∙ is in
-    record { path = path; query = query; operation = operation; passes = passes; built_headers = headers; asks = e ∙ ap Ok same }
+taken_all : (raw : Raw) (path : List (List ℕ)) (query : List (List ℕ × List ℕ)) (who : Caller) (operation : Operation) (op o : Op) (lease source : Option ℕ)
+    → PassesRow raw path query who operation op → given raw ≡ Ok lease → given_source raw ≡ Ok source → (asked raw).asks.op ≡ o → PassesAll raw o
+unfolding decoded
+taken_all raw path query who operation op o lease source passes e f is =
+    let at : asked raw ≡ record { caller = Some who; asks = with_ids op raw lease source } =
+    source_at raw path query who operation op lease (Ok source) passes e f in
+    let same : op ≡ o = sym (ap (λ (a : Asked). a.asks.op) at) ∙ is in
+    record {
+      path = path;
+      query = query;
+      who = who;
+      operation = operation;
+      passes = record { operation = passes.operation; row = passes.row ∙ ap Ok same };
+      lease = e ∙ ap Ok (sym (ap (λ (a : Asked). a.asks.lease) at));
+      source_lease = f ∙ ap Ok (sym (ap (λ (a : Asked). a.asks.source_lease) at));
+      caller = ap (λ (a : Asked). a.caller) at;
+      conditions = ap (λ (a : Asked). a.asks.cond) at;
+    }
 
-taken_headers : (raw : Raw) (path : List (List ℕ)) (query : List (List ℕ × List ℕ)) (operation : Operation) (o : Op) → PassesOperation raw path query operation
-    → (b : Bool) → has_unbuilt_header raw ≡ b → (asked raw).op ≡ o → IsTaken o → PassesAll raw o
-taken_headers raw path query operation o passes true e is taken =
-    absurd (refused_is_not_taken raw (Some the_superuser) NotBuiltYet o (taken_parts raw path query operation true passes e) is taken)
-taken_headers raw path query operation o passes false e is taken =
-    taken_op raw path query operation o passes e (built_op operation path query) refl is taken
+taken_source : (raw : Raw) (path : List (List ℕ)) (query : List (List ℕ × List ℕ)) (who : Caller) (operation : Operation) (op o : Op) (lease : Option ℕ)
+    (source : Result (Option ℕ) Code) → PassesRow raw path query who operation op → given raw ≡ Ok lease → given_source raw ≡ source
+    → (asked raw).asks.op ≡ o → IsTaken o → PassesAll raw o
+taken_source raw path query who operation op o lease (Err code) passes e f is taken =
+    absurd (refused_is_not_taken raw (Some who) code o (source_at raw path query who operation op lease (Err code) passes e f) is taken)
+taken_source raw path query who operation op o lease (Ok source) passes e f is taken =
+    taken_all raw path query who operation op o lease source passes e f is
 
-taken_count : (raw : Raw) (path : List (List ℕ)) (query : List (List ℕ × List ℕ)) (operation : Operation) (o : Op) → PassesCaller raw path query
-    → operation_of (method_of raw) query raw ≡ Some operation → (b : Bool) → takes operation (length path) ≡ b → (asked raw).op ≡ o → IsTaken o
-    → PassesAll raw o
-taken_count raw path query operation o passes operation_is true e is taken =
-    taken_headers raw path query operation o (record { caller = passes; operation = operation_is; parts = e }) (has_unbuilt_header raw) refl is taken
-taken_count raw path query operation o passes operation_is false e is taken =
-    let other = cond (has_unbuilt_header raw) (Err NotBuiltYet) (built_op operation path query) in
-    absurd (refused_is_not_taken raw (Some the_superuser) InvalidUri o
-    (op_at raw path query (Some operation) passes operation_is ∙ ap (λ (b : Bool). asked_by the_superuser (cond b other (Err InvalidUri))) e) is taken)
+taken_lease : (raw : Raw) (path : List (List ℕ)) (query : List (List ℕ × List ℕ)) (who : Caller) (operation : Operation) (op o : Op)
+    (lease : Result (Option ℕ) Code) → PassesRow raw path query who operation op → given raw ≡ lease → (asked raw).asks.op ≡ o → IsTaken o → PassesAll raw o
+taken_lease raw path query who operation op o (Err code) passes e is taken =
+    absurd (refused_is_not_taken raw (Some who) code o (lease_at raw path query who operation op (Err code) passes e) is taken)
+taken_lease raw path query who operation op o (Ok lease) passes e is taken =
+    taken_source raw path query who operation op o lease (given_source raw) passes e refl is taken
 
-taken_operation : (raw : Raw) (path : List (List ℕ)) (query : List (List ℕ × List ℕ)) (o : Op) → PassesCaller raw path query
-    → (operation : Option Operation) → operation_of (method_of raw) query raw ≡ operation → (asked raw).op ≡ o → IsTaken o → PassesAll raw o
-taken_operation raw path query o passes None e is taken =
-    absurd (refused_is_not_taken raw (Some the_superuser) UnsupportedHttpVerb o (op_at raw path query None passes e) is taken)
-taken_operation raw path query o passes (Some operation) e is taken =
-    taken_count raw path query operation o passes e (takes operation (length path)) refl is taken
+taken_row : (raw : Raw) (path : List (List ℕ)) (query : List (List ℕ × List ℕ)) (who : Caller) (operation : Operation) (o : Op) (row : Result Op Code)
+    → PassesOperation raw path query who operation → op_of_row operation path query raw ≡ row → (asked raw).asks.op ≡ o → IsTaken o → PassesAll raw o
+taken_row raw path query who operation o (Err code) passes e is taken =
+    absurd (refused_is_not_taken raw (Some who) code o (row_at raw path query who operation (Err code) passes e) is taken)
+taken_row raw path query who operation o (Ok op) passes e is taken =
+    taken_lease raw path query who operation op o (given raw) (record { operation = passes; row = e }) refl is taken
 
-taken_caller : (raw : Raw) (path : List (List ℕ)) (query : List (List ℕ × List ℕ)) (o : Op) → PassesTarget raw path query
-    → (caller : Result Caller Code) → caller_of raw ≡ caller → (asked raw).op ≡ o → IsTaken o → PassesAll raw o
-taken_caller raw path query o passes (Err code) e is taken =
+taken_count : (raw : Raw) (path : List (List ℕ)) (query : List (List ℕ × List ℕ)) (who : Caller) (operation : Operation) (o : Op) (b : Bool)
+    → PassesCaller raw path query who → operation_of (method_of raw) query raw ≡ Some operation → takes operation (length path) ≡ b
+    → (asked raw).asks.op ≡ o → IsTaken o → PassesAll raw o
+taken_count raw path query who operation o false passes e parts is taken =
+    absurd (refused_is_not_taken raw (Some who) InvalidUri o (parts_at raw path query who operation false passes e parts) is taken)
+taken_count raw path query who operation o true passes e parts is taken =
+    taken_row raw path query who operation o (op_of_row operation path query raw) (record { caller = passes; operation = e; parts = parts }) refl is taken
+
+taken_operation : (raw : Raw) (path : List (List ℕ)) (query : List (List ℕ × List ℕ)) (who : Caller) (o : Op) (operation : Option Operation)
+    → PassesCaller raw path query who → operation_of (method_of raw) query raw ≡ operation → (asked raw).asks.op ≡ o → IsTaken o → PassesAll raw o
+taken_operation raw path query who o None passes e is taken =
+    absurd (refused_is_not_taken raw (Some who) UnsupportedHttpVerb o (operation_at raw path query who None passes e) is taken)
+taken_operation raw path query who o (Some operation) passes e is taken =
+    taken_count raw path query who operation o (takes operation (length path)) passes e refl is taken
+
+taken_caller : (raw : Raw) (path : List (List ℕ)) (query : List (List ℕ × List ℕ)) (o : Op) (caller : Result Caller Code) → PassesTarget raw path query
+    → caller_of raw ≡ caller → (asked raw).asks.op ≡ o → IsTaken o → PassesAll raw o
+taken_caller raw path query o (Err code) passes e is taken =
     absurd (refused_is_not_taken raw None code o (caller_at raw path query (Err code) passes e) is taken)
-taken_caller raw path query o passes (Ok caller) e is taken =
-    let same : caller ≡ the_superuser = subst IsRightCaller e (right_caller raw) in
-    taken_operation raw path query o (record { target = passes; caller = e ∙ ap Ok same }) (operation_of (method_of raw) query raw) refl is taken
+taken_caller raw path query o (Ok who) passes e is taken =
+    taken_operation raw path query who o (operation_of (method_of raw) query raw) (record { target = passes; caller = e }) refl is taken
 
-taken_target : (raw : Raw) (o : Op) → has_other_encoding raw ≡ false → (target : Result (List (List ℕ) × List (List ℕ × List ℕ)) Code)
-    → target_of raw.target ≡ target → (asked raw).op ≡ o → IsTaken o → PassesAll raw o
-taken_target raw o encoding (Err code) e is taken =
+taken_target : (raw : Raw) (o : Op) (target : Result (List (List ℕ) × List (List ℕ × List ℕ)) Code) → has_other_encoding raw ≡ false
+    → target_of raw.target ≡ target → (asked raw).asks.op ≡ o → IsTaken o → PassesAll raw o
+taken_target raw o (Err code) encoding e is taken =
     absurd (refused_is_not_taken raw None code o (target_at raw (Err code) encoding e) is taken)
-taken_target raw o encoding (Ok target) e is taken =
-    taken_caller raw target.0 target.1 o (record { encoding = encoding; target = e }) (caller_of raw) refl is taken
+taken_target raw o (Ok target) encoding e is taken =
+    taken_caller raw target.0 target.1 o (caller_of raw) (record { encoding = encoding; target = e }) refl is taken
 
-taken_encoding : (raw : Raw) (o : Op) (b : Bool) → has_other_encoding raw ≡ b → (asked raw).op ≡ o → IsTaken o → PassesAll raw o
+taken_encoding : (raw : Raw) (o : Op) (b : Bool) → has_other_encoding raw ≡ b → (asked raw).asks.op ≡ o → IsTaken o → PassesAll raw o
 taken_encoding raw o true e is taken =
     absurd (refused_is_not_taken raw None UnsupportedContentEncoding o (encoding_at raw true e) is taken)
-taken_encoding raw o false e is taken = taken_target raw o e (target_of raw.target) refl is taken
+taken_encoding raw o false e is taken = taken_target raw o (target_of raw.target) e refl is taken
 
 pub taken_passes : (raw : Raw) (o : Op) → (decoded raw).op ≡ o → IsTaken o → PassesAll raw o
 unfolding decoded

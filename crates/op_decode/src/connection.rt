@@ -8,8 +8,8 @@ use super::headers::header;
 use head_text::{is_same_name, trimmed};
 use http_front::Raw;
 
-/// Whether the connection ends with the reply: the request came by HTTP/1.0, or its Connection has the item `close` in any case
-/// (RFC 9112, sections 9.3 and 9.6).
+/// Whether the connection ends with the reply: the request came by HTTP/1.0, or its Connection has the item `close`
+/// in any case (RFC 9112, sections 9.3 and 9.6).
 #[tactic(auto, unfolding(crate::specs::Connections::closes))]
 pub fn closes(raw: &Raw) -> bool
     ensures { result ≡ closes raw.now }

@@ -1,15 +1,16 @@
 // Tables of requests as they are decoded.
 use super::head::headers_of;
-use super::say::{say, say_whether, split};
+use super::operation::say_op;
+use super::say::{say, say_number, say_whether, split};
 use file_data::{Piece, SharedPiece};
-use head_text::HeaderList;
+use head_text::{Conditions, ETagList, HeaderList};
 use http_front::Raw;
-use namespace_model::{Kind, Op, Request};
+use namespace_model::{Caller, Request};
 use op_decode::decode;
-use path_text::{Path, write_path};
 use std::alloc::{AllocError, Global};
 
-/// Appends the answer, and answers whether there is a table of this name.
+/// Appends the answer, and answers whether there is a table of this name: `connections`, and each whose name begins
+/// with `requests`.
 pub fn answer(
     alloc: Global,
     name: &str,
@@ -17,11 +18,14 @@ pub fn answer(
     second: &[u8],
     out: &mut Vec<u8>,
 ) -> Result<bool, AllocError> {
-    match name {
-        "requests" => request(alloc, first, second, out)?,
-        "connections" => connection(alloc, first, second, out)?,
-        _ => return Ok(false),
+    if name == "connections" {
+        connection(alloc, first, second, out)?;
+        return Ok(true);
     }
+    if !name.starts_with("requests") {
+        return Ok(false);
+    }
+    request(alloc, first, second, out)?;
     Ok(true)
 }
 
@@ -42,17 +46,26 @@ fn piece_of(alloc: Global, bytes: &[u8]) -> Result<Piece, AllocError> {
     Ok(Piece::new(bytes.to_vec(alloc)?))
 }
 
-fn body_of(alloc: Global) -> Result<SharedPiece, AllocError> {
-    SharedPiece::new(alloc, piece_of(alloc, b"abc")?)
+fn body_of(alloc: Global, bytes: &[u8]) -> Result<SharedPiece, AllocError> {
+    SharedPiece::new(alloc, piece_of(alloc, bytes)?)
 }
 
-// A request of HTTP/1.1 or 1.0 with the body `abc`: `METHOD TARGET`, and headers.
-fn raw_of(alloc: Global, line: &[u8], headers: &[u8], minor: u8) -> Result<Raw, AllocError> {
+// The headers, and behind a `|` the body.
+fn split_body(text: &[u8]) -> (&[u8], &[u8]) {
+    match text.iter().position(|byte| *byte == b'|') {
+        Some(at) => (&text[..at], text[at..].strip_prefix(b"|").unwrap_or(b"")),
+        None => (text, b""),
+    }
+}
+
+// A request of HTTP/1.1 or 1.0: `METHOD TARGET`, and headers with a body behind.
+fn raw_of(alloc: Global, line: &[u8], text: &[u8], minor: u8) -> Result<Raw, AllocError> {
     let (method, target) = split(line);
+    let (headers, body) = split_body(text);
     let method = piece_of(alloc, method)?;
     let target = piece_of(alloc, target)?;
     let headers = with_caller(alloc, headers)?;
-    let body = body_of(alloc)?;
+    let body = body_of(alloc, body.trim_ascii())?;
     Ok(Raw {
         method,
         target,
@@ -62,77 +75,117 @@ fn raw_of(alloc: Global, line: &[u8], headers: &[u8], minor: u8) -> Result<Raw, 
     })
 }
 
-fn decoded(alloc: Global, line: &[u8], headers: &[u8], minor: u8) -> Result<Request, AllocError> {
-    let raw = raw_of(alloc, line, headers, minor)?;
+fn decoded(alloc: Global, line: &[u8], text: &[u8], minor: u8) -> Result<Request, AllocError> {
+    let raw = raw_of(alloc, line, text, minor)?;
     decode(alloc, &raw)
 }
 
-// What a request asks, and whom for; whether its reply has no body; and the length of its own where that is another.
-fn request(
+// A request with all that it asks.
+fn request(alloc: Global, line: &[u8], text: &[u8], out: &mut Vec<u8>) -> Result<(), AllocError> {
+    let request = decoded(alloc, line, text, 1)?;
+    say_request(alloc, &request, out)
+}
+
+fn say_request(alloc: Global, request: &Request, out: &mut Vec<u8>) -> Result<(), AllocError> {
+    say_op(alloc, &request.op, out)?;
+    say_caller(request.caller.as_ref(), out)?;
+    say_lease(alloc, ", lease ", request.lease, out)?;
+    say_lease(alloc, ", source lease ", request.source_lease, out)?;
+    say_conditions(alloc, &request.cond, out)?;
+    say_whether(out, request.head, (", head", ""))?;
+    say_whether(out, request.close, (", closes", ""))?;
+    say_body(alloc, request.body.bytes(), out)
+}
+
+// The caller and its groups; nothing where it is the superuser and has none.
+fn say_caller(caller: Option<&Caller>, out: &mut Vec<u8>) -> Result<(), AllocError> {
+    match caller {
+        None => say(out, ", no caller"),
+        Some(caller) if caller.id.is_superuser() && caller.groups.items().is_empty() => Ok(()),
+        Some(caller) => say_id_and_groups(caller, out),
+    }
+}
+
+fn say_id_and_groups(caller: &Caller, out: &mut Vec<u8>) -> Result<(), AllocError> {
+    say(out, ", as ")?;
+    out.extend_from_slice(caller.id.bytes())?;
+    let groups = caller.groups.items();
+    say_whether(out, groups.is_empty(), ("", " in"))?;
+    for group in groups {
+        say(out, " ")?;
+        out.extend_from_slice(group.bytes())?;
+    }
+    Ok(())
+}
+
+// An id in hexadecimal digits, where there is one.
+fn say_lease(
     alloc: Global,
-    line: &[u8],
-    headers: &[u8],
+    word: &str,
+    id: Option<u128>,
     out: &mut Vec<u8>,
 ) -> Result<(), AllocError> {
-    let request = decoded(alloc, line, headers, 1)?;
-    say_request(&request, out)
-}
-
-fn say_request(request: &Request, out: &mut Vec<u8>) -> Result<(), AllocError> {
-    say_op(&request.op, out)?;
-    say_caller(request, out)?;
-    say_whether(out, request.head, (", head", ""))?;
-    say_whether(
-        out,
-        request.body.bytes() == b"abc".as_slice(),
-        ("", ", another body"),
-    )
-}
-
-fn say_caller(request: &Request, out: &mut Vec<u8>) -> Result<(), AllocError> {
-    match &request.caller {
-        None => say(out, ", no caller"),
-        Some(caller) if caller.id.is_superuser() => Ok(()),
-        Some(caller) => {
-            say(out, ", ")?;
-            out.extend_from_slice(caller.id.bytes())
-        }
+    match id {
+        Some(id) => say(out, format!(in alloc; "{word}{id:x}")?.as_str()),
+        None => Ok(()),
     }
 }
 
-fn say_op(op: &Op, out: &mut Vec<u8>) -> Result<(), AllocError> {
-    if let Op::Refused(code) = op {
-        return say(out, code.name());
-    }
-    match asked(op) {
-        Some((word, path)) => {
+fn say_conditions(
+    alloc: Global,
+    conditions: &Conditions,
+    out: &mut Vec<u8>,
+) -> Result<(), AllocError> {
+    say_tags(alloc, ", if match:", conditions.matches.as_ref(), out)?;
+    say_tags(alloc, ", if none match:", conditions.none.as_ref(), out)?;
+    say_date(alloc, ", if modified since ", conditions.modified, out)?;
+    say_date(alloc, ", if unmodified since ", conditions.unmodified, out)
+}
+
+fn say_tags(
+    alloc: Global,
+    word: &str,
+    tags: Option<&ETagList>,
+    out: &mut Vec<u8>,
+) -> Result<(), AllocError> {
+    match tags {
+        Some(tags) => {
             say(out, word)?;
-            write_path(path, out)
+            say_whether(out, tags.any(), (" any", ""))?;
+            say_tag_numbers(alloc, tags.numbers(), out)
         }
-        None => say(out, "another"),
+        None => Ok(()),
     }
 }
 
-// The operation in words, and its path.
-fn asked(op: &Op) -> Option<(&'static str, &Path)> {
-    match op {
-        Op::CreateFilesystem { path, .. } => Some(("filesystem ", path)),
-        Op::Create { path, kind, .. } => Some((kind_of(*kind), path)),
-        Op::GetProperties { path, status } => {
-            Some((if *status { "status " } else { "properties " }, path))
-        }
-        Op::Delete { path, recursive } => {
-            Some((if *recursive { "delete all " } else { "delete " }, path))
-        }
-        _ => None,
+fn say_tag_numbers(alloc: Global, numbers: &[u64], out: &mut Vec<u8>) -> Result<(), AllocError> {
+    for number in numbers {
+        say(out, " ")?;
+        say_number(alloc, out, Some(*number))?;
     }
+    Ok(())
 }
 
-fn kind_of(kind: Kind) -> &'static str {
-    match kind {
-        Kind::File => "file ",
-        Kind::Directory => "directory ",
+// The seconds since 1970, where there are any.
+fn say_date(
+    alloc: Global,
+    word: &str,
+    secs: Option<u64>,
+    out: &mut Vec<u8>,
+) -> Result<(), AllocError> {
+    if secs.is_none() {
+        return Ok(());
     }
+    say(out, word)?;
+    say_number(alloc, out, secs)
+}
+
+fn say_body(alloc: Global, body: &[u8], out: &mut Vec<u8>) -> Result<(), AllocError> {
+    if body.is_empty() {
+        return Ok(());
+    }
+    say(out, ", body ")?;
+    say_number(alloc, out, Some(body.len() as u64))
 }
 
 // The second number of the version, and a value of Connection.

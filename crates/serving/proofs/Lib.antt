@@ -1,0 +1,10 @@
+pub mod Texts
+pub mod KnownLemmas
+pub mod MomentLemmas
+pub mod EndLemmas
+pub mod WrittenLemmas
+pub mod EntryLemmas
+pub mod ServingInvariant
+pub mod ServeLemmas
+pub mod CompleteLemmas
+pub mod AloneLemmas

@@ -1,0 +1,9 @@
+pub mod Texts
+pub mod Known
+pub mod Moments
+pub mod Answered
+pub mod Ends
+pub mod Written
+pub mod Refuses
+pub mod Served
+pub mod Completes

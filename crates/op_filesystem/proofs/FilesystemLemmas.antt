@@ -56,6 +56,8 @@ use Rattle.path_walk.proofs.CallAnswers.{WalksAs}
 use Rattle.path_walk.proofs.FindLemmas.{leads_to}
 use Rattle.path_walk.proofs.HoldLemmas.{written_need}
 use Rattle.op_filesystem.specs.Filesystems.{root_inode, IsMade}
+use Rattle.op_filesystem.proofs.RootLemmas.{IsRoot, is_root}
+use Rattle.op_filesystem.proofs.SuperuserLemmas.{AsksFirst}
 
 abbrev Given : Type 0
 Given = Option (List (List ℕ × List ℕ))
@@ -88,18 +90,6 @@ child_missing None child e h = sym e
 child_missing (Some id) child e h = absurd (false≢true (sym h))
 
 -- ---- the path of a filesystem
-
--- the way to it is reached at once, and reads the account alone
-record IsRoot (t : Tree) (caller : Caller) (path : Path) : Type 0 where
-  whole : root_of path ≡ path
-  above : parent path ≡ []
-  passes : way_of t caller path ≡ reached
-  reads : read_on t caller path ≡ [] ∷ []
-
-is_root : (t : Tree) (caller : Caller) (path : Path) → length path ≡ 1 → IsRoot t caller path
-is_root t caller [] h = absurd (omega arith)
-is_root t caller (fs ∷ []) h = record { whole = refl; above = refl; passes = refl; reads = refl }
-is_root t caller (fs ∷ n ∷ names) h = absurd (omega arith)
 
 one_name : (path : Path) (n : List ℕ) → length path ≡ 1 → path ≡ parent path ++ n ∷ [] → path ≡ n ∷ []
 one_name [] n h e = absurd (omega arith)
@@ -204,15 +194,9 @@ module _ (call : Call) (props : Given) (is : IsCall call) (asked : call.request.
   asked_by e o asks h =
       ap (λ (r : Request). is_no_superuser (unwrap_or r.caller nobody) call.path.now) asks ∙ ap (λ c. is_no_superuser (unwrap_or c nobody) call.path.now) is.by ∙ h
 
-  -- another one than the superuser
-  pub denied_answer : (held : Held) (shown : Shown) (reply : Reply) (ids : List NodeId) (d : Draft) → is_no_superuser call.caller.now call.path.now ≡ Some reply → ids ≡ [] → IsAnswered call.request.now.close reply ids d → Answers held shown call (Ok d)
-  denied_answer held shown reply ids d refuses none answers =
-      answer_is_draft held shown call.request.now call.moment call.fresh reply ids d is.sound (λ id h. absurd (false≢true (ap (λ (l : List NodeId). is_one_of id (numbers_of l)) (sym none) ∙ h))) answers
-      (λ parts t e possible of. (
-        [],
-        step t e.entry of.asks ∙ step_asks t e.entry call.path.now props (Some reply) (asked_by e.entry (Some reply) of.asks refuses),
-        λ id. ap (λ (l : List NodeId). is_one_of id (numbers_of l)) none,
-      ))
+  -- the superuser is asked for first
+  pub asks_first : AsksFirst call (λ t e. reading ([] ∷ []) (behind_account t e call.path.now props))
+  asks_first t e asks = step t e asks ∙ step_asks t e call.path.now props (is_no_superuser (caller_of e) call.path.now) refl
 
   -- the step of the superuser walks to the path
   pub walks_as : is_no_superuser call.caller.now call.path.now ≡ None → WalksAs call call.caller.now call.path.now FilesystemNotFound

@@ -1,1 +1,7 @@
 pub mod FilesystemLemmas
+pub mod SuperuserLemmas
+pub mod RootLemmas
+pub mod RootSteps
+pub mod NamedLemmas
+pub mod ListedLemmas
+pub mod ListingLemmas

@@ -1,1 +1,3 @@
 pub mod Filesystems
+pub mod Roots
+pub mod Listed

@@ -18,7 +18,8 @@ pub(crate) fn already_there(
     call: &Call<'_>,
     reads: Vec<NodeId>,
 ) -> Result<Draft, AllocError>
-    ensures { IfOk result (λ draft. IsAnswered call.now.request.now.close (refusal FilesystemAlreadyExists) reads.items draft) }
+    ensures { IfOk result (λ draft.
+        IsAnswered call.now.request.now.close (refusal FilesystemAlreadyExists) reads.items draft) }
 {
     let reply = refusal(alloc, Code::FilesystemAlreadyExists);
     answered(alloc, reads, reply, call.request.close)

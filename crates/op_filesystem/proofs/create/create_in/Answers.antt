@@ -1,6 +1,6 @@
 use Rattle.std.proofs.Common.{sym, ◌∙◌}
 use Rattle.op_filesystem.proofs.FilesystemLemmas.{there_answer, made_answer, lacking_answer}
-use Rattle.op_filesystem.proofs.eval.create_in.Goals as goal
+use Rattle.op_filesystem.proofs.create.create_in.Goals as goal
 
 pub returns-then-is_some : goal.returns-then-is_some
 returns-then-is_some g c =

@@ -2,12 +2,13 @@ use Rattle.std.proofs.Common.{Err, ap, sym, subst, ◌∙◌}
 use Rattle.namespace_model.specs.declared.code.Code.TheVariants.{FilesystemNotFound}
 use Rattle.path_walk.specs.Parents.{IsEntered}
 use Rattle.path_walk.proofs.CallAnswers.{stopped_by, walk_need}
-use Rattle.op_filesystem.proofs.FilesystemLemmas.{denied_answer, walks_as, never_ended}
-use Rattle.op_filesystem.proofs.eval.create_filesystem.Goals as goal
+use Rattle.op_filesystem.proofs.FilesystemLemmas.{asks_first, walks_as, never_ended}
+use Rattle.op_filesystem.proofs.SuperuserLemmas.{denied_answer}
+use Rattle.op_filesystem.proofs.create.create_filesystem.Goals as goal
 
 pub returns-in-Some-clause-evaluated : goal.returns-in-Some-clause-evaluated
 returns-in-Some-clause-evaluated g c =
-    denied_answer c.args.call.now c.args.props.now c.requires.call c.requires.operation _ _ c.in-Some.reply _ _ (sym c.in_ok-reply.ensures ∙ c.in-Some.is) c.new.ensures.items
+    denied_answer c.args.call.now c.requires.call _ (asks_first c.args.call.now c.args.props.now c.requires.call c.requires.operation) _ _ c.in-Some.reply _ _ (sym c.in_ok-reply.ensures ∙ c.in-Some.is) c.new.ensures.items
     c.in_ok-answered.ensures
 
 pub returns-in-Err-clause-evaluated : goal.returns-in-Err-clause-evaluated

@@ -1,0 +1,6 @@
+pub mod IdLemmas
+pub mod WalkLemmas
+pub mod TurnLemmas
+pub mod TallyLemmas
+pub mod RunLemmas
+pub mod BatchAnswers

@@ -1,4 +1,3 @@
-pub mod Texts
 pub mod EvalLemmas
 pub mod FineQuestions
 pub mod FineNodes
@@ -8,9 +7,4 @@ pub mod OpeningLemmas
 pub mod StripeLemmas
 pub mod ReceiptLemmas
 pub mod SoloLemmas
-pub mod WrittenLemmas
-pub mod RoomLemmas
-pub mod ServingInvariant
-pub mod EntryLemmas
-pub mod ServeLemmas
-pub mod CompleteLemmas
+pub mod DeskLemmas

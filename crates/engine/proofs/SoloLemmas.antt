@@ -7,7 +7,6 @@ use Rattle.lease_state.specs.declared.lease.TheConstants.{LAST_MOMENT}
 use Rattle.lock_core.specs.declared.object.LockMode.TheVariants as mode
 use Rattle.namespace_model.specs.declared.request.Entry.{Entry}
 use Rattle.namespace_model.specs.declared.request.Request.{Request}
-use Rattle.op_decode.specs.Built.{IsBuilt}
 use Rattle.namespace_model.specs.Sound.{IsSound}
 use Rattle.namespace_model.specs.Step.{step, new_paths, tree_from, tree_after}
 use Rattle.namespace_model.specs.Trees.{Path, Tree, opening_tree}
@@ -42,9 +41,10 @@ use Rattle.std.proofs.Math.Nat.{mod-lt}
 use Rattle.striped_store.specs.Receipts.{AreBits}
 use Rattle.inode_tree.specs.Parts as parts
 use Rattle.engine.specs.declared.solo.Answer.{Answer}
-use Rattle.engine.specs.Submits.{Submits, texts_of}
+use Rattle.engine.specs.Submits.{Submits}
 use Rattle.engine.proofs.FineSteps.{outcome_fine}
-use Rattle.engine.proofs.Texts.{texts_push}
+use Rattle.serving.specs.Texts.{texts_of}
+use Rattle.serving.proofs.Texts.{texts_push}
 
 -- ---- moments
 
@@ -105,7 +105,7 @@ same_stripes xs ys same stripe =
 
 -- ---- a submit
 
-module _ (old : SoloView) (kept : IsKept old) (e : Entry) (sound : IsSound e.request) (built : IsBuilt e.request) (timely : e.moment ≤ LAST_MOMENT)
+module _ (old : SoloView) (kept : IsKept old) (e : Entry) (sound : IsSound e.request) (timely : e.moment ≤ LAST_MOMENT)
     (shown : Shown) (shows : (stripe : ℕ) → shown stripe ≡ slice_get (parts_in old) stripe) (fresh : Fresh) (pass : fresh.pass ≡ 0) (used : fresh.used ≡ old.used)
     (d : Draft) (draft : IsDraft all_held shown e.request e.moment fresh d) where
   abbrev t : Tree

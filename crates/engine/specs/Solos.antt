@@ -4,6 +4,7 @@ use Rattle.std.specs.Coded.{Coded, code_by, coded×, coded_list, coded_ℕ}
 use Rattle.commit_journal.specs.Journal.{JournalView}
 use Rattle.commit_journal.specs.Limits.{LimitNumbers}
 use Rattle.namespace_model.specs.declared.request.Entry.{Entry}
+use Rattle.namespace_model.specs.declared.request.Request.{Request}
 use Rattle.namespace_model.specs.Step.{step, tree_after, new_paths}
 use Rattle.namespace_model.specs.Trees.{Tree, opening_tree}
 use Rattle.inode_tree.specs.declared.meta.Meta.{Meta}
@@ -31,6 +32,10 @@ journal_in s = record { entries = s.entries; limits = s.limits; spare = s.spare 
 
 abbrev pub parts_in : SoloView → Parts
 parts_in s = parts_of s.stripes
+
+-- what is entered into the journal for a request: the request itself
+abbrev pub as_asked : Request → Request
+as_asked request = request
 
 -- ---- codes
 

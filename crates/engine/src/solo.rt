@@ -1,18 +1,14 @@
-ghost use Rattle.std.specs.Prelude.{◌≡◌};
-ghost use Rattle.engine.specs.declared.solo.SubmitRefusal.TheVariants.{NoMemory};
-ghost use Rattle.engine.specs.Submits.{refusal_for};
-
 use super::evaluation::eval;
 use super::receipt::{receipt_of, stripes_of};
 use super::spelling::spell;
 use super::stripes::Stripes;
-use commit_journal::{Full, Journal, Limits, ReserveStop};
+use commit_journal::{Full, Journal, Limits};
 use inode_tree::{EvalStop, Fresh};
 use namespace_model::{Entry, Request};
+use serving::SubmitRefusal;
 use std::alloc::{AllocError, Global};
 use std::marker::Model;
 use striped_store::Receipt;
-use thiserror::Error;
 
 /// The text of a reply, and the receipt of its entry: its number, the stripes of the nodes that it wrote and of those that it read
 /// alone, and one round.
@@ -20,34 +16,6 @@ use thiserror::Error;
 pub struct Answer {
     pub bytes: Vec<u8>,
     pub receipt: Receipt,
-}
-
-/// Why a request was not taken. It then has no entry.
-#[derive(Clone, Copy, Debug, PartialEq, Eq, Error)]
-pub enum SubmitRefusal {
-    #[error(transparent)]
-    Full(Full),
-    #[error("out of memory")]
-    NoMemory,
-}
-
-impl From<AllocError> for SubmitRefusal {
-    ghost from_gives = { λ _ refusal. refusal ≡ NoMemory };
-
-    fn from(_error: AllocError) -> SubmitRefusal {
-        SubmitRefusal::NoMemory
-    }
-}
-
-impl From<ReserveStop> for SubmitRefusal {
-    ghost from_gives = { λ stop refusal. refusal ≡ refusal_for stop };
-
-    fn from(stop: ReserveStop) -> SubmitRefusal {
-        match stop {
-            ReserveStop::Full(full) => SubmitRefusal::Full(full),
-            ReserveStop::NoMemory => SubmitRefusal::NoMemory,
-        }
-    }
 }
 
 /// The sequential engine: the namespace in memory, and the journal of all that was asked of it. A contract sees the journal, the 64
@@ -77,11 +45,11 @@ impl Solo {
     ghost use Rattle.lease_state.specs.declared.lease.TheConstants.{LAST_MOMENT};
     ghost use Rattle.commit_journal.specs.Journal.{IsFull, IsFullFor, IsWithin};
     ghost use Rattle.inode_tree.specs.Stands.{Stands};
-    ghost use Rattle.op_decode.specs.Built.{IsBuilt};
     ghost use Rattle.namespace_model.specs.Sound.{IsSound};
     ghost use Rattle.namespace_model.specs.Step.{tree_after};
     ghost use Rattle.engine.specs.Solos.{journal_in, made_by, parts_in};
-    ghost use Rattle.engine.specs.Submits.{Submits, IsUnchanged, body_of};
+    ghost use Rattle.engine.specs.Submits.{Submits, IsUnchanged};
+    ghost use Rattle.serving.specs.Texts.{body_of};
 
     /// An engine with an empty journal and the account alone. The one error is want of memory.
     pub fn start(alloc: Global, limits: &Limits) -> Result<Solo, AllocError>
@@ -116,7 +84,6 @@ impl Solo {
         moment: u64,
     ) -> Result<Answer, SubmitRefusal>
         requires sound { IsSound request }
-        requires built { IsBuilt request }
         requires moment { moment ≤ LAST_MOMENT }
         ensures ok { IfOk result (λ answer. Submits self.old self.new (record { conn = conn; index = index; moment = moment; request = request }) answer) }
         ensures refused { OnErr result (IsUnchanged self.old self.new) }

@@ -1,12 +1,9 @@
 ghost use Rattle.std.specs.Prelude.{◌≡◌, ◌≤◌, IfOk};
 ghost use Rattle.lease_state.specs.declared.lease.TheConstants.{LAST_MOMENT};
-ghost use Rattle.reply_text.specs.declared.last.Last.TheVariants.{Bad};
-ghost use Rattle.reply_text.specs.LastReply.{last_reply_text};
 ghost use Rattle.reply_text.specs.ReplyText.{CanSpell, reply_text};
 
-use http_front::BadHttp;
 use namespace_model::Reply;
-use reply_text::{Last, fill, last_reply};
+use reply_text::fill;
 use std::alloc::{AllocError, Global};
 
 /// Spells the reply to the entry with this journal number and moment; `head` says that the request was a HEAD. The one error is
@@ -25,14 +22,5 @@ pub fn spell(
     let mut text = Vec::new(alloc);
     let slots = reply_text::spell(alloc, reply, moment, head, &mut text)?;
     fill(text.as_mut_slice(), slots, number);
-    Ok(text)
-}
-
-/// Spells the reply to bytes that are no request of the service, after which the connection ends. The one error is want of memory.
-pub fn spell_last(alloc: Global, bad: BadHttp) -> Result<Vec<u8>, AllocError>
-    ensures { IfOk result (λ text. text.items ≡ last_reply_text (Bad bad)) }
-{
-    let mut text = Vec::new(alloc);
-    last_reply(alloc, Last::Bad(bad), &mut text)?;
     Ok(text)
 }

@@ -1,5 +1,4 @@
 ghost use Rattle.std.specs.Prelude.{IfOk};
-ghost use Rattle.op_decode.specs.Built.{IsBuilt};
 ghost use Rattle.namespace_model.specs.Sound.{IsSound};
 
 use commit_journal::{Full, Limits};
@@ -16,13 +15,12 @@ use std::test::Fail;
 const CREATED: &[u8] =
     b"HTTP/1.1 201 Created\r\nDate: Thu, 01 Jan 1970 00:00:00 GMT\r\nx-ms-request-id: 0000000000000001\r\nx-ms-version: 2020-08-04\r\nETag: \"0x0000000000000001\"\r\nLast-Modified: Thu, 01 Jan 1970 00:00:00 GMT\r\nContent-Length: 0\r\n\r\n";
 
-const NOT_BUILT_CLOSING: &[u8] =
-    b"HTTP/1.1 501 Not Implemented\r\nDate: Thu, 01 Jan 1970 00:00:00 GMT\r\nx-ms-request-id: 0000000000000001\r\nx-ms-version: 2020-08-04\r\nConnection: close\r\nContent-Type: application/json\r\nx-ms-error-code: NotBuiltYet\r\nContent-Length: 76\r\n\r\n{\"error\":{\"code\":\"NotBuiltYet\",\"message\":\"The operation is not built yet.\"}}";
+const REFUSED_CLOSING: &[u8] =
+    b"HTTP/1.1 400 Bad Request\r\nDate: Thu, 01 Jan 1970 00:00:00 GMT\r\nx-ms-request-id: 0000000000000001\r\nx-ms-version: 2020-08-04\r\nConnection: close\r\nContent-Type: application/json\r\nx-ms-error-code: InvalidInput\r\nContent-Length: 71\r\n\r\n{\"error\":{\"code\":\"InvalidInput\",\"message\":\"The request is not valid.\"}}";
 
 // A request that was refused in decoding, with so many bytes of body.
 fn refused(alloc: Global, body: usize, close: bool) -> Result<Request, AllocError>
     ensures sound { IfOk result (λ request. IsSound request) }
-    ensures built { IfOk result (λ request. IsBuilt request) }
 {
     let body = vec![in alloc; 0u8; body]?;
     let body = SharedPiece::new(alloc, Piece::new(body))?;
@@ -31,11 +29,10 @@ fn refused(alloc: Global, body: usize, close: bool) -> Result<Request, AllocErro
 
 fn refused_with(body: SharedPiece, close: bool) -> Request
     ensures sound { IsSound result }
-    ensures built { IsBuilt result }
 {
     Request {
         caller: None,
-        op: Op::Refused(Code::NotBuiltYet),
+        op: Op::Refused(Code::InvalidInput),
         cond: Conditions {
             matches: None,
             none: None,
@@ -82,19 +79,43 @@ fn text_of(alloc: Global, text: &[u8]) -> Result<Piece, AllocError> {
     Ok(Piece::new(text.to_vec(alloc)?))
 }
 
-fn caller_of(alloc: Global) -> Result<HeaderList, AllocError> {
+fn pair_of(alloc: Global, name: &[u8], value: &[u8]) -> Result<(Vec<u8>, Vec<u8>), AllocError> {
+    Ok((name.to_vec(alloc)?, value.to_vec(alloc)?))
+}
+
+// The headers of the superuser, with the source where there is one.
+fn headers_of(alloc: Global, source: Option<&[u8]>) -> Result<HeaderList, AllocError> {
     let mut pairs = Vec::new(alloc);
-    let name = b"X-MS-Caller".as_slice().to_vec(alloc)?;
-    let value = b"$superuser".as_slice().to_vec(alloc)?;
-    pairs.push((name, value))?;
+    pairs.push(pair_of(alloc, b"X-MS-Caller", b"$superuser")?)?;
+    if let Some(source) = source {
+        pairs.push(pair_of(alloc, b"x-ms-rename-source", source)?)?;
+    }
     Ok(HeaderList::new(pairs))
 }
 
-// A PUT by the superuser, as it was read.
-fn raw_put(alloc: Global, target: &[u8]) -> Result<Raw, AllocError> {
-    let method = text_of(alloc, b"PUT")?;
-    let target = text_of(alloc, target)?;
-    let headers = caller_of(alloc)?;
+// What the superuser asks for; with a source it is a rename.
+#[derive(Clone, Copy)]
+struct Call<'a> {
+    method: &'a [u8],
+    target: &'a [u8],
+    source: Option<&'a [u8]>,
+}
+
+impl<'a> Call<'a> {
+    fn new(method: &'a [u8], target: &'a [u8]) -> Call<'a> {
+        Call {
+            method,
+            target,
+            source: None,
+        }
+    }
+}
+
+// The call as it was read.
+fn raw_of(alloc: Global, call: Call<'_>) -> Result<Raw, AllocError> {
+    let method = text_of(alloc, call.method)?;
+    let target = text_of(alloc, call.target)?;
+    let headers = headers_of(alloc, call.source)?;
     let body = SharedPiece::new(alloc, Piece::new(Vec::new(alloc)))?;
     Ok(Raw {
         method,
@@ -105,28 +126,38 @@ fn raw_put(alloc: Global, target: &[u8]) -> Result<Raw, AllocError> {
     })
 }
 
-fn put(alloc: Global, solo: &mut Solo, target: &[u8]) -> Result<Answer, AllocError> {
-    let raw = raw_put(alloc, target)?;
+fn answer(alloc: Global, solo: &mut Solo, call: Call<'_>) -> Result<Answer, AllocError> {
+    let raw = raw_of(alloc, call)?;
     let request = decode(alloc, &raw)?;
     solo.submit(alloc, 0, 0, request, 0).map_err(|_| AllocError)
 }
 
 // The stripes that an entry shared, and those that it had alone, as bits.
-fn stripes(alloc: Global, solo: &mut Solo, target: &[u8]) -> Result<(u64, u64), AllocError> {
-    let answer = put(alloc, solo, target)?;
+fn stripes(alloc: Global, solo: &mut Solo, call: Call<'_>) -> Result<(u64, u64), AllocError> {
+    let answer = answer(alloc, solo, call)?;
     Ok((answer.receipt.shared, answer.receipt.exclusive))
 }
 
+// The filesystem gets id 1, and /data/a and /data/a/f get 66 and 131, which lie in the stripes 2 and 3.
 #[test]
 fn receipts_have_the_stripes_of_their_entries(rt: HostRuntime) -> Result<(), Fail> {
     let alloc = rt.alloc();
     let mut solo = solo_of(alloc, 10, 4)?;
-    let root = stripes(alloc, &mut solo, b"/data?resource=filesystem")?;
-    assert_eq!(rt; root, (0, 0b11));
-    let made = stripes(alloc, &mut solo, b"/data/a/f?resource=file")?;
-    assert_eq!(rt; made, (0b1, 0b1110));
-    let again = stripes(alloc, &mut solo, b"/data/a/f?resource=file")?;
-    assert_eq!(rt; again, (0b11, 0b11100));
+    let file = Call::new(b"PUT", b"/data/a/f?resource=file");
+    let renamed = Call {
+        method: b"PUT",
+        target: b"/data/g",
+        source: Some(b"/data/a/f"),
+    };
+    for (call, wanted) in [
+        (Call::new(b"PUT", b"/data?resource=filesystem"), (0, 0b11)),
+        (file, (0b1, 0b1110)),
+        (Call::new(b"GET", b"/data/a/f"), (0b1111, 0)),
+        (file, (0b11, 0b1_1100)),
+        (renamed, (0b1, 0b1_0110)),
+    ] {
+        assert_eq!(rt; stripes(alloc, &mut solo, call)?, wanted);
+    }
     Ok(())
 }
 
@@ -134,7 +165,8 @@ fn receipts_have_the_stripes_of_their_entries(rt: HostRuntime) -> Result<(), Fai
 fn a_receipt_has_the_number_and_one_round(rt: HostRuntime) -> Result<(), Fail> {
     let alloc = rt.alloc();
     let mut solo = solo_of(alloc, 10, 4)?;
-    let answer = put(alloc, &mut solo, b"/data?resource=filesystem")?;
+    let call = Call::new(b"PUT", b"/data?resource=filesystem");
+    let answer = answer(alloc, &mut solo, call)?;
     assert_eq!(rt; answer.bytes.as_slice(), CREATED);
     assert_eq!(rt; (answer.receipt.number, answer.receipt.rounds), (1, 1));
     Ok(())
@@ -149,6 +181,6 @@ fn closing_answer(alloc: Global) -> Result<Answer, AllocError> {
 #[test]
 fn a_reply_that_ends_its_connection_says_so(rt: HostRuntime) -> Result<(), Fail> {
     let answer = closing_answer(rt.alloc())?;
-    assert_eq!(rt; answer.bytes.as_slice(), NOT_BUILT_CLOSING);
+    assert_eq!(rt; answer.bytes.as_slice(), REFUSED_CLOSING);
     Ok(())
 }

@@ -59,11 +59,6 @@ fn served(
         return Err(AllocError);
     };
     let mut solo = Solo::start(alloc, &limits)?;
-    if solo.journal().limits().requests_max()
-        > solo.journal().limits().journal_max() - solo.journal().len()
-    {
-        return Err(AllocError);
-    }
     let (answered, end) = serve_solo(alloc, &mut solo, source, sink, &mut FixedClock(0));
     let entries = solo.journal().len();
     let written = sink.bytes().to_vec(alloc)?;

@@ -63,20 +63,66 @@ fn crowded(alloc: Global) -> Result<Vec<u8>, AllocError> {
     Ok(text)
 }
 
-const REFUSED: (u64, Option<FrontFault>, bool) = (
-    0,
-    Some(FrontFault::Bad(BadHttp::NotBuilt)),
-    true,
-);
+// The answer to bytes that are refused: no request, this cause, and then the end.
+fn refused(bad: BadHttp) -> (u64, Option<FrontFault>, bool) {
+    (0, Some(FrontFault::Bad(bad)), true)
+}
 
+// What is sent behind the request line, and why it is refused.
+const REFUSED: [(&str, BadHttp); 6] = [
+    ("Transfer-Encoding: chunked\r\n\r\n", BadHttp::NoLength),
+    (
+        "Content-Length: 1\r\nContent-Length: 1\r\n\r\n",
+        BadHttp::BadLength,
+    ),
+    ("Content-Length: +1\r\n\r\n", BadHttp::BadLength),
+    ("Content-Length: \r\n\r\n", BadHttp::BadLength),
+    ("Content-Length: 104857601\r\n\r\n", BadHttp::BodyTooLarge),
+    ("No colon\r\n\r\n", BadHttp::NoHead),
+];
+
+// Each fault shows without another read, which would fail.
 #[test]
 fn what_shows_a_fault_is_answered_without_another_read(rt: HostRuntime) -> Result<(), Fail> {
     let alloc = rt.alloc();
     let crowded = crowded(alloc)?;
-    let body = b"PUT / HTTP/1.1\r\nContent-Length: 1\r\n\r\n";
-    assert_eq!(rt; answers_to(alloc, crowded.as_slice(), 4096, 1)?, REFUSED);
-    assert_eq!(rt; answers_to(alloc, b" ", 4096, 1)?, REFUSED);
-    assert_eq!(rt; answers_to(alloc, body, 4096, 1)?, REFUSED);
+    let answers = answers_to(alloc, crowded.as_slice(), 4096, 1)?;
+    assert_eq!(rt; answers, refused(BadHttp::TooManyHeaders));
+    assert_eq!(rt; answers_to(alloc, b" ", 4096, 1)?, refused(BadHttp::NoHead));
+    for (headers, bad) in REFUSED {
+        let text = format!(in alloc; "PUT / HTTP/1.1\r\n{headers}")?;
+        assert_eq!(rt;
+            answers_to(alloc, text.as_bytes(), 4096, 1)?,
+            refused(bad),
+            "{headers}"
+        );
+    }
+    Ok(())
+}
+
+// A PUT whose body has two bytes.
+const PUT: &[u8] = b"PUT / HTTP/1.1\r\nContent-Length: 2\r\n\r\n";
+
+// Where the source ends within the body, and where it fails there.
+#[test]
+fn a_body_that_is_cut_short_is_no_request(rt: HostRuntime) -> Result<(), Fail> {
+    let alloc = rt.alloc();
+    let mut text = PUT.to_vec(alloc)?;
+    text.push(b'x')?;
+    let cut = FrontFault::CutShort(text.len() as u64);
+    assert_eq!(rt;
+        answers_to(alloc, text.as_slice(), 4096, 9)?,
+        (0, Some(cut), true)
+    );
+    assert_eq!(rt;
+        answers_to(alloc, text.as_slice(), 4096, 1)?,
+        (0, Some(FrontFault::ReadFault), true)
+    );
+    text.push(b'y')?;
+    assert_eq!(rt;
+        answers_to(alloc, text.as_slice(), 4096, 1)?,
+        (1, Some(FrontFault::ReadFault), true)
+    );
     Ok(())
 }
 

@@ -13,19 +13,19 @@ use Rattle.engine.proofs.solo.Solo.submit.Goals as goal
 pub spell-requires-clause-reply : goal.spell-requires-clause-reply
 spell-requires-clause-reply c =
     spelled (record { entries = c.self.inside.journal.entries; limits = c.self.inside.journal.limits; spare = c.self.inside.journal.spare; stripes = c.self.inside.stripes; used = c.self.inside.used })
-    c.self.invariant (record { conn = c.args.conn; index = c.args.index; moment = c.args.moment; request = c.args.request }) c.requires.sound c.requires.built c.requires.moment
+    c.self.invariant (record { conn = c.args.conn; index = c.args.index; moment = c.args.moment; request = c.args.request }) c.requires.sound c.requires.moment
     (λ stripe. slice_get (parts_of c.eval.new.view) stripe) (λ stripe. ap (λ v. slice_get (parts_of v) stripe) c.in-Ok.ensures.on.over_same)
     (record { pass = 0; used = c.self.inside.used }) refl refl c.in-Ok.draft c.in-Ok.ensures.evaluated
 
 pub apply-requires-clause-stands : goal.apply-requires-clause-stands
 apply-requires-clause-stands c =
     stand_as (record { entries = c.self.inside.journal.entries; limits = c.self.inside.journal.limits; spare = c.self.inside.journal.spare; stripes = c.self.inside.stripes; used = c.self.inside.used })
-    c.self.invariant (record { conn = c.args.conn; index = c.args.index; moment = c.args.moment; request = c.args.request }) c.requires.sound c.requires.built c.requires.moment
+    c.self.invariant (record { conn = c.args.conn; index = c.args.index; moment = c.args.moment; request = c.args.request }) c.requires.sound c.requires.moment
     (λ stripe. slice_get (parts_of c.eval.new.view) stripe) (λ stripe. ap (λ v. slice_get (parts_of v) stripe) c.in-Ok.ensures.on.over_same)
     (record { pass = 0; used = c.self.inside.used }) refl refl c.in-Ok.draft c.in-Ok.ensures.evaluated
     _
     (applied_is (record { entries = c.self.inside.journal.entries; limits = c.self.inside.journal.limits; spare = c.self.inside.journal.spare; stripes = c.self.inside.stripes; used = c.self.inside.used })
-    c.self.invariant (record { conn = c.args.conn; index = c.args.index; moment = c.args.moment; request = c.args.request }) c.requires.sound c.requires.built c.requires.moment
+    c.self.invariant (record { conn = c.args.conn; index = c.args.index; moment = c.args.moment; request = c.args.request }) c.requires.sound c.requires.moment
     (λ stripe. slice_get (parts_of c.eval.new.view) stripe) (λ stripe. ap (λ v. slice_get (parts_of v) stripe) c.in-Ok.ensures.on.over_same)
     (record { pass = 0; used = c.self.inside.used }) refl refl c.in-Ok.draft c.in-Ok.ensures.evaluated
     (c.len-number.result + 1) c.as_slice-changes.result.now (parts_of c.reserve-2.new.self) (ap (λ n. n + 1) (c.len-number.ensures.value ∙ ap length c.reserve.ensures.entries)) c.as_slice-changes.ensures.value (c.reserve-2.ensures.parts ∙ ap parts_of c.in-Ok.ensures.on.over_same))
@@ -33,12 +33,12 @@ apply-requires-clause-stands c =
 pub apply-requires-clause-dates : goal.apply-requires-clause-dates
 apply-requires-clause-dates c =
     date_as (record { entries = c.self.inside.journal.entries; limits = c.self.inside.journal.limits; spare = c.self.inside.journal.spare; stripes = c.self.inside.stripes; used = c.self.inside.used })
-    c.self.invariant (record { conn = c.args.conn; index = c.args.index; moment = c.args.moment; request = c.args.request }) c.requires.sound c.requires.built c.requires.moment
+    c.self.invariant (record { conn = c.args.conn; index = c.args.index; moment = c.args.moment; request = c.args.request }) c.requires.sound c.requires.moment
     (λ stripe. slice_get (parts_of c.eval.new.view) stripe) (λ stripe. ap (λ v. slice_get (parts_of v) stripe) c.in-Ok.ensures.on.over_same)
     (record { pass = 0; used = c.self.inside.used }) refl refl c.in-Ok.draft c.in-Ok.ensures.evaluated
     _
     (applied_is (record { entries = c.self.inside.journal.entries; limits = c.self.inside.journal.limits; spare = c.self.inside.journal.spare; stripes = c.self.inside.stripes; used = c.self.inside.used })
-    c.self.invariant (record { conn = c.args.conn; index = c.args.index; moment = c.args.moment; request = c.args.request }) c.requires.sound c.requires.built c.requires.moment
+    c.self.invariant (record { conn = c.args.conn; index = c.args.index; moment = c.args.moment; request = c.args.request }) c.requires.sound c.requires.moment
     (λ stripe. slice_get (parts_of c.eval.new.view) stripe) (λ stripe. ap (λ v. slice_get (parts_of v) stripe) c.in-Ok.ensures.on.over_same)
     (record { pass = 0; used = c.self.inside.used }) refl refl c.in-Ok.draft c.in-Ok.ensures.evaluated
     (c.len-number.result + 1) c.as_slice-changes.result.now (parts_of c.reserve-2.new.self) (ap (λ n. n + 1) (c.len-number.ensures.value ∙ ap length c.reserve.ensures.entries)) c.as_slice-changes.ensures.value (c.reserve-2.ensures.parts ∙ ap parts_of c.in-Ok.ensures.on.over_same))
@@ -46,7 +46,7 @@ apply-requires-clause-dates c =
 pub apply-requires-clause-others : goal.apply-requires-clause-others
 apply-requires-clause-others c =
     others_left (record { entries = c.self.inside.journal.entries; limits = c.self.inside.journal.limits; spare = c.self.inside.journal.spare; stripes = c.self.inside.stripes; used = c.self.inside.used })
-    c.self.invariant (record { conn = c.args.conn; index = c.args.index; moment = c.args.moment; request = c.args.request }) c.requires.sound c.requires.built c.requires.moment
+    c.self.invariant (record { conn = c.args.conn; index = c.args.index; moment = c.args.moment; request = c.args.request }) c.requires.sound c.requires.moment
     (λ stripe. slice_get (parts_of c.eval.new.view) stripe) (λ stripe. ap (λ v. slice_get (parts_of v) stripe) c.in-Ok.ensures.on.over_same)
     (record { pass = 0; used = c.self.inside.used }) refl refl c.in-Ok.draft c.in-Ok.ensures.evaluated
     c.stripes_of-written.result (c.len-number.result + 1) c.as_slice-changes.result.now (parts_of c.reserve-2.new.self)
@@ -56,13 +56,13 @@ apply-requires-clause-others c =
 pub invariant_of-self-2 : goal.invariant_of-self-2
 invariant_of-self-2 c =
     kept_after (record { entries = c.self.inside.journal.entries; limits = c.self.inside.journal.limits; spare = c.self.inside.journal.spare; stripes = c.self.inside.stripes; used = c.self.inside.used })
-    c.self.invariant (record { conn = c.args.conn; index = c.args.index; moment = c.args.moment; request = c.args.request }) c.requires.sound c.requires.built c.requires.moment
+    c.self.invariant (record { conn = c.args.conn; index = c.args.index; moment = c.args.moment; request = c.args.request }) c.requires.sound c.requires.moment
     (λ stripe. slice_get (parts_of c.eval.new.view) stripe) (λ stripe. ap (λ v. slice_get (parts_of v) stripe) c.in-Ok.ensures.on.over_same)
     (record { pass = 0; used = c.self.inside.used }) refl refl c.in-Ok.draft c.in-Ok.ensures.evaluated
     _ (c.push.ensures.entries ∙ ap (λ es. es ++ (record { conn = c.args.conn; index = c.args.index; moment = c.args.moment; request = c.args.request }) ∷ []) c.reserve.ensures.entries)
     (c.apply.ensures
     ∙ applied_is (record { entries = c.self.inside.journal.entries; limits = c.self.inside.journal.limits; spare = c.self.inside.journal.spare; stripes = c.self.inside.stripes; used = c.self.inside.used })
-    c.self.invariant (record { conn = c.args.conn; index = c.args.index; moment = c.args.moment; request = c.args.request }) c.requires.sound c.requires.built c.requires.moment
+    c.self.invariant (record { conn = c.args.conn; index = c.args.index; moment = c.args.moment; request = c.args.request }) c.requires.sound c.requires.moment
     (λ stripe. slice_get (parts_of c.eval.new.view) stripe) (λ stripe. ap (λ v. slice_get (parts_of v) stripe) c.in-Ok.ensures.on.over_same)
     (record { pass = 0; used = c.self.inside.used }) refl refl c.in-Ok.draft c.in-Ok.ensures.evaluated
     (c.len-number.result + 1) c.as_slice-changes.result.now (parts_of c.reserve-2.new.self) (ap (λ n. n + 1) (c.len-number.ensures.value ∙ ap length c.reserve.ensures.entries)) c.as_slice-changes.ensures.value (c.reserve-2.ensures.parts ∙ ap parts_of c.in-Ok.ensures.on.over_same))
@@ -73,13 +73,13 @@ returns-clause-ok c =
     subst (λ (old : SoloView). Submits old (record { entries = c.push.new.self.entries; limits = c.push.new.self.limits; spare = c.push.new.self.spare; stripes = c.apply.new.self; used = c.self.inside.used + c.from.result }) (record { conn = c.args.conn; index = c.args.index; moment = c.args.moment; request = c.args.request }) (record { bytes = c.in_ok-bytes.bytes; receipt = c.receipt_of.result }))
     (let view = c.self.view_is in let same : (record { entries = c.self.inside.journal.entries; limits = c.self.inside.journal.limits; spare = c.self.inside.journal.spare; stripes = c.self.inside.stripes; used = c.self.inside.used }) ≡ c.args.self.now = cc in same)
     (submits (record { entries = c.self.inside.journal.entries; limits = c.self.inside.journal.limits; spare = c.self.inside.journal.spare; stripes = c.self.inside.stripes; used = c.self.inside.used })
-    c.self.invariant (record { conn = c.args.conn; index = c.args.index; moment = c.args.moment; request = c.args.request }) c.requires.sound c.requires.built c.requires.moment
+    c.self.invariant (record { conn = c.args.conn; index = c.args.index; moment = c.args.moment; request = c.args.request }) c.requires.sound c.requires.moment
     (λ stripe. slice_get (parts_of c.eval.new.view) stripe) (λ stripe. ap (λ v. slice_get (parts_of v) stripe) c.in-Ok.ensures.on.over_same)
     (record { pass = 0; used = c.self.inside.used }) refl refl c.in-Ok.draft c.in-Ok.ensures.evaluated
     (record { entries = c.push.new.self.entries; limits = c.push.new.self.limits; spare = c.push.new.self.spare; stripes = c.apply.new.self; used = c.self.inside.used + c.from.result }) (record { bytes = c.in_ok-bytes.bytes; receipt = c.receipt_of.result }) (c.push.ensures.entries ∙ ap (λ es. es ++ (record { conn = c.args.conn; index = c.args.index; moment = c.args.moment; request = c.args.request }) ∷ []) c.reserve.ensures.entries)
     (c.apply.ensures
     ∙ applied_is (record { entries = c.self.inside.journal.entries; limits = c.self.inside.journal.limits; spare = c.self.inside.journal.spare; stripes = c.self.inside.stripes; used = c.self.inside.used })
-    c.self.invariant (record { conn = c.args.conn; index = c.args.index; moment = c.args.moment; request = c.args.request }) c.requires.sound c.requires.built c.requires.moment
+    c.self.invariant (record { conn = c.args.conn; index = c.args.index; moment = c.args.moment; request = c.args.request }) c.requires.sound c.requires.moment
     (λ stripe. slice_get (parts_of c.eval.new.view) stripe) (λ stripe. ap (λ v. slice_get (parts_of v) stripe) c.in-Ok.ensures.on.over_same)
     (record { pass = 0; used = c.self.inside.used }) refl refl c.in-Ok.draft c.in-Ok.ensures.evaluated
     (c.len-number.result + 1) c.as_slice-changes.result.now (parts_of c.reserve-2.new.self) (ap (λ n. n + 1) (c.len-number.ensures.value ∙ ap length c.reserve.ensures.entries)) c.as_slice-changes.ensures.value (c.reserve-2.ensures.parts ∙ ap parts_of c.in-Ok.ensures.on.over_same))

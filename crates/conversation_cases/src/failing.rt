@@ -1,7 +1,7 @@
 // Lets each read and each write of a conversation fail in turn. What is to be seen then follows from the run in which none fails.
 use super::form::Conversation;
 use super::reply::{has_text, reply_ends};
-use super::run::{Ends, Ran, serve};
+use super::run::{Cut, Ends, Ran, pieces, serve};
 use std::alloc::{AllocError, Global};
 
 // The run in which nothing fails, and where each request ends in what is sent and each reply in what is written, in bytes.
@@ -13,7 +13,7 @@ struct Whole<'a> {
 }
 
 // About so many calls fail in turn, of longer conversations the first ones of them.
-const CALLS: usize = 40;
+const CALLS: usize = 16;
 
 /// Lets each read and each write fail in turn, and tells what differs.
 pub fn try_failing(
@@ -33,47 +33,52 @@ pub fn try_failing(
     try_writes(alloc, conversation, &whole, out)
 }
 
-// What is sent comes in pieces of one length, so that read `call` comes behind so many of them.
+// Each read takes a piece whole, so that read `call` comes behind so many of them.
 fn try_reads(
     alloc: Global,
     conversation: &Conversation,
     whole: &Whole<'_>,
     out: &mut String,
 ) -> Result<(), AllocError> {
-    let sent = conversation.bytes_sent();
-    let piece = (sent / CALLS).clamp(97, 4096);
-    let calls = sent.div_ceil(piece).min(2 * CALLS);
-    for call in 0..=calls {
-        if out.is_empty() {
-            try_read(alloc, conversation, whole, (piece, call), out)?;
-        }
+    let most = (conversation.bytes_sent() / CALLS).clamp(97, 4096);
+    let cut = Cut::ByRequest(most);
+    let pieces = pieces(alloc, conversation, cut)?;
+    let mut call = 0u64;
+    let mut sent = 0usize;
+    for piece in pieces.iter().take(2 * CALLS) {
+        try_read(alloc, conversation, whole, (cut, call, sent), out)?;
+        call = call.saturating_add(1);
+        sent = sent.saturating_add(piece.len());
     }
-    Ok(())
+    try_read(alloc, conversation, whole, (cut, call, sent), out)
 }
 
-// Read `call` fails: the requests that came whole before are answered, and the status is 3. Where the connection ends by a reply, or
-// nothing is read at all, the read may be none that is made.
+// Read `call` fails, behind so many bytes: the requests that came whole before are answered, and the status is 3. Where the connection
+// ends by a reply, or nothing is read at all, the read may be none that is made.
 fn try_read(
     alloc: Global,
     conversation: &Conversation,
     whole: &Whole<'_>,
-    (piece, call): (usize, usize),
+    (cut, call, sent): (Cut, u64, usize),
     out: &mut String,
 ) -> Result<(), AllocError> {
+    if !out.is_empty() {
+        return Ok(());
+    }
     let ends = Ends {
-        piece,
+        cut,
         most: 4096,
         room: whole.ran.written.len().saturating_add(1),
-        failing_read: Some(call as u64),
+        failing_read: Some(call),
         failing_write: None,
     };
     let ran = serve(alloc, conversation, &ends)?;
-    let is_failed = ran.has(whole.answered_within(call.saturating_mul(piece)), 3);
+    let is_failed = ran.has(whole.answered_within(sent), 3);
     if is_failed || (whole.ends_early() && ran.is_as(whole.ran)) {
         return Ok(());
     }
     tell(&ran, "read", call, out)?;
-    write!(out, "  in pieces of {piece} bytes\n")
+    write!(out, "  behind {sent} bytes\n")
 }
 
 // The sink takes so many bytes at a call that there are few calls.
@@ -102,7 +107,7 @@ fn try_write(
     out: &mut String,
 ) -> Result<(), AllocError> {
     let ends = Ends {
-        piece: usize::MAX,
+        cut: Cut::Anywhere(usize::MAX),
         most,
         room: whole.ran.written.len().saturating_add(1),
         failing_read: None,
@@ -116,11 +121,11 @@ fn try_write(
     if is_right {
         return Ok(());
     }
-    tell(&ran, "write", call, out)?;
+    tell(&ran, "write", call as u64, out)?;
     write!(out, "  at most {most} bytes at a write\n")
 }
 
-fn tell(ran: &Ran, what: &str, call: usize, out: &mut String) -> Result<(), AllocError> {
+fn tell(ran: &Ran, what: &str, call: u64, out: &mut String) -> Result<(), AllocError> {
     let status = ran.status;
     let written = ran.written.len();
     write!(

@@ -36,6 +36,22 @@ pub enum Mark {
     InBody(Vec<u8>),
 }
 
+impl Request {
+    /// Its head with the empty line behind it, and what stands behind that.
+    pub fn parts(&self) -> (&[u8], &[u8]) {
+        let bytes = self.bytes.as_slice();
+        let end = bytes
+            .windows(4)
+            .position(|end| end == b"\r\n\r\n".as_slice());
+        match end {
+            Some(at) => bytes
+                .split_at_checked(at.saturating_add(4))
+                .unwrap_or((bytes, b"".as_slice())),
+            None => (bytes, b"".as_slice()),
+        }
+    }
+}
+
 impl Conversation {
     /// How many bytes are sent.
     pub fn bytes_sent(&self) -> usize {

@@ -4,10 +4,18 @@ use conn_io::{BytesIn, BytesOut, LAST_MOMENT, ListClock};
 use hns_commands::run_pipe;
 use std::alloc::{AllocError, Global};
 
-/// How the bytes go: at most `piece` at a read, `most` at a write and `room` in all, and the calls of this number, from 0, fail.
+/// How what is sent is cut into pieces of at most so many bytes: anywhere, or so that each head and each body ends a piece. Then each read
+/// takes a piece whole, since a reader of requests reads no further than a body ends.
+#[derive(Clone, Copy)]
+pub enum Cut {
+    Anywhere(usize),
+    ByRequest(usize),
+}
+
+/// How the bytes go: a piece at a read, `most` at a write and `room` in all, and the calls of this number, from 0, fail.
 #[derive(Clone, Copy)]
 pub struct Ends {
-    pub piece: usize,
+    pub cut: Cut,
     pub most: usize,
     pub room: usize,
     pub failing_read: Option<u64>,
@@ -55,8 +63,7 @@ fn words(alloc: Global, conversation: &Conversation) -> Result<Vec<String>, Allo
 
 fn source(alloc: Global, conversation: &Conversation, ends: &Ends) -> Result<BytesIn, AllocError> {
     let failing = one_or_none(alloc, ends.failing_read)?;
-    let sent = sent(alloc, conversation)?;
-    let pieces = pieces(alloc, sent.as_slice(), ends.piece)?;
+    let pieces = pieces(alloc, conversation, ends.cut)?;
     Ok(BytesIn::new(alloc, pieces, failing))
 }
 
@@ -82,12 +89,39 @@ fn sent(alloc: Global, conversation: &Conversation) -> Result<Vec<u8>, AllocErro
     Ok(sent)
 }
 
-fn pieces(alloc: Global, bytes: &[u8], piece: usize) -> Result<Vec<Vec<u8>>, AllocError> {
+/// What is sent, in pieces.
+pub fn pieces(
+    alloc: Global,
+    conversation: &Conversation,
+    cut: Cut,
+) -> Result<Vec<Vec<u8>>, AllocError> {
     let mut pieces = Vec::new(alloc);
-    for part in bytes.chunks(piece.max(1)) {
-        pieces.push(part.to_vec(alloc)?)?;
+    match cut {
+        Cut::Anywhere(most) => {
+            let sent = sent(alloc, conversation)?;
+            push_pieces(alloc, sent.as_slice(), most, &mut pieces)?;
+        }
+        Cut::ByRequest(most) => {
+            for request in conversation.requests.iter() {
+                let (head, body) = request.parts();
+                push_pieces(alloc, head, most, &mut pieces)?;
+                push_pieces(alloc, body, most, &mut pieces)?;
+            }
+        }
     }
     Ok(pieces)
+}
+
+fn push_pieces(
+    alloc: Global,
+    bytes: &[u8],
+    most: usize,
+    pieces: &mut Vec<Vec<u8>>,
+) -> Result<(), AllocError> {
+    for part in bytes.chunks(most.max(1)) {
+        pieces.push(part.to_vec(alloc)?)?;
+    }
+    Ok(())
 }
 
 // A clock that answers the moment of each request, the last one again and again, and 0 where there is none.

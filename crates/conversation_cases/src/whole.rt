@@ -1,7 +1,7 @@
 // Runs a conversation whole and in pieces, with ends that do not fail.
 use super::compare::compare;
 use super::form::Conversation;
-use super::run::{Ends, Ran, serve};
+use super::run::{Cut, Ends, Ran, serve};
 use std::alloc::{AllocError, Global};
 
 // The most bytes that replies may have together.
@@ -50,7 +50,7 @@ fn try_cut(
     out: &mut String,
 ) -> Result<Ran, AllocError> {
     let ends = Ends {
-        piece,
+        cut: Cut::Anywhere(piece),
         most: 4096,
         room: ROOM,
         failing_read: None,

@@ -4,7 +4,7 @@
 #   make gate                                        passes all proofs, edits, tests and cases (rt ci)
 #   make cases                                       names each file of cases in args and stdout
 #   make live                                        looks at the built program hns
-#   make try FILE=conversation_cases/data/moments.txt  runs one file of cases in a minute, and proves nothing
+#   make try FILE=conversation_cases/data/paths_moments.txt  runs one file of cases in a minute, and proves nothing
 #   make bench                                       measures the built program
 #   make fmt                                         lays out all files
 
@@ -32,6 +32,8 @@ try:
 bench:
 	bench/pipe
 	bench/paths
+	bench/subtrees
+	bench/allocations
 	bench/locks
 	bench/files
 

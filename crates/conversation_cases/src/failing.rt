@@ -13,7 +13,7 @@ struct Whole<'a> {
 }
 
 // About so many calls fail in turn, of longer conversations the first ones of them.
-const CALLS: usize = 16;
+const CALLS: usize = 40;
 
 /// Lets each read and each write fail in turn, and tells what differs.
 pub fn try_failing(

@@ -1,7 +1,7 @@
 -- The causes of the faults: they exclude one another, complete requests, and the beginnings of requests.
 use Rattle.std.proofs.Common.{◌≡◌, inl, inr, ℕ, ◌≤◌, List, [], ◌∷◌, ◌++◌, length, refl, sym, ap, ◌∙◌, subst, arith, append-nil, length-append, Some}
 use Rattle.std.specs.List.{flat_map}
-use Rattle.httparse.specs.Grammar.{RequestHead, print_request, ReadsRequest}
+use Rattle.httparse.specs.Grammar.{RequestHead, print_request}
 use Rattle.httparse.proofs.GrammarLemmas.{request_unique, ReadsRequest-append}
 use Rattle.conn_io.specs.Crowded.{Crowded}
 use Rattle.http_front.specs.declared.limits.TheConstants.{HEAD_MOST}

@@ -7,7 +7,7 @@ use Rattle.http_front.specs.declared.answers.FrontFault.{FrontFault}
 use Rattle.http_front.specs.declared.answers.FrontFault.TheVariants.{Bad, CutShort, ReadFault, NoMemory}
 use Rattle.http_front.specs.declared.answers.Next.{Next}
 use Rattle.http_front.specs.declared.answers.Next.TheVariants.{Request, Ended}
-use Rattle.http_front.specs.Requests.{print_text, IsComplete, raw_of, Begins, BeginsWithNone}
+use Rattle.http_front.specs.Requests.{print_text, IsComplete, raw_of, Begins}
 use Rattle.httparse.specs.Grammar.{RequestHead}
 use Rattle.http_front.specs.Reads.{Reads, Answers, Foretells, IsForetold, IsFaultless, AwaitsBody, IsUnfinished, BeginsWithHead, HasOnlyLongHeads}
 use Rattle.http_front.proofs.TextLemmas.{Begins_unique, BeginsWithNone-nil, print_text_some, print_request_some}

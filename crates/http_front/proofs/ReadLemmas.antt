@@ -8,7 +8,6 @@ use Rattle.http_front.specs.declared.answers.FrontFault.{FrontFault}
 use Rattle.http_front.specs.declared.answers.FrontFault.TheVariants.{Bad, CutShort, ReadFault, NoMemory}
 use Rattle.http_front.specs.declared.answers.Next.{Next}
 use Rattle.http_front.specs.declared.find.Head.{Head}
-use Rattle.http_front.specs.declared.find.Found.TheVariants as found
 use Rattle.http_front.specs.Reads.{Reads, Answers, AwaitsHead, BeginsWithHead, TakesNoMore, GivesEnd}
 use Rattle.http_front.specs.Finds.{FindsHead}
 use Rattle.http_front.specs.Steps.{MeetsHead, AwaitsMeeting, Finishes, EndsWith}

@@ -9,6 +9,7 @@ ghost use Rattle.http_front.specs.Steps.{TakesKept, FillsBody, Finishes};
 
 use super::answers::{FrontFault, Next};
 use super::find::Head;
+use super::shared_bodies::SharedBodies;
 use super::window::{Window, read_more};
 use conn_io::Source;
 use std::alloc::{AllocError, Global};
@@ -97,6 +98,7 @@ fn fill_body<S: Source>(body: &mut Vec<u8>, many: usize, source: &mut S) -> Resu
 /// and the missing ones are read, at most 65,536 at a time. Memory is taken as they come.
 pub fn finish<S: Source>(
     alloc: Global,
+    bodies: &mut SharedBodies,
     window: &mut Window,
     head: Head,
     source: &mut S,
@@ -122,8 +124,8 @@ pub fn finish<S: Source>(
         Ok(false) => return Err(FrontFault::CutShort((head_bytes + body.len()) as u64)),
         Err(fault) => return Err(fault),
     }
-    match parts.with_body(alloc, body) {
-        Ok(raw) => Ok(Next::Request(raw)),
+    match bodies.share(alloc, body) {
+        Ok(shared) => Ok(Next::Request(parts.with_body(shared))),
         Err(_) => Err(FrontFault::NoMemory),
     }
 }

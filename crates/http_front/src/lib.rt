@@ -20,6 +20,7 @@ mod limits;
 mod lines;
 mod raw;
 mod reader;
+mod shared_bodies;
 mod window;
 
 pub use answers::{BadHttp, FrontFault, Next};

@@ -49,9 +49,9 @@ pub struct Parts {
 }
 
 impl Parts {
-    /// The request of this head and this body. The one error is want of memory.
-    pub fn with_body(self, alloc: Global, body: Vec<u8>) -> Result<Raw, AllocError>
-        ensures { IfOk result (λ raw. raw ≡ raw_from self body.items) }
+    /// The request of this head and this body.
+    pub fn with_body(self, body: SharedPiece) -> Raw
+        ensures { result ≡ raw_from self body }
     {
         let Parts {
             method,
@@ -59,12 +59,12 @@ impl Parts {
             minor,
             headers,
         } = self;
-        Ok(Raw {
+        Raw {
             method,
             target,
             minor,
             headers,
-            body: SharedPiece::new(alloc, Piece::new(body))?,
-        })
+            body,
+        }
     }
 }

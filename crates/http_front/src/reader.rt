@@ -9,16 +9,19 @@ ghost use Rattle.http_front.specs.declared.limits.TheConstants.{HEAD_MOST};
 use super::answers::{FrontFault, Next};
 use super::body::finish;
 use super::find::{Found, Head, find_head};
+use super::shared_bodies::SharedBodies;
 use super::window::Window;
 use conn_io::Source;
 use std::alloc::{AllocError, Global};
 use std::marker::Model;
 
 /// Takes requests from a source, one after the other. It keeps the bytes that were read and belong to no request yet, at most 16,384 of
-/// them, and none once it has answered its last. A contract sees those bytes, and whether the reader has answered its last.
+/// them, and none once it has answered its last; and one empty body, which all requests without a body have together. A contract sees
+/// the bytes that it keeps, and whether the reader has answered its last.
 #[derive(Drop)]
 pub struct Reader {
     alloc: Global,
+    bodies: SharedBodies,
     window: Window,
     over: bool,
 }
@@ -49,6 +52,7 @@ impl Reader {
     {
         Reader {
             alloc,
+            bodies: SharedBodies::new(),
             window: Window::new(alloc),
             over: false,
         }
@@ -94,7 +98,7 @@ impl Reader {
         if self.over {
             return Ok(Next::Ended);
         }
-        let answer = answer(self.alloc, &mut self.window, source);
+        let answer = answer(self.alloc, &mut self.bodies, &mut self.window, source);
         if is_last(&answer) {
             self.window.clear();
             self.over = true;
@@ -115,7 +119,12 @@ fn is_last(answer: &Result<Next, FrontFault>) -> bool
 }
 
 // The answer of a reader that is not over.
-fn answer<S: Source>(alloc: Global, window: &mut Window, source: &mut S) -> Result<Next, FrontFault>
+fn answer<S: Source>(
+    alloc: Global,
+    bodies: &mut SharedBodies,
+    window: &mut Window,
+    source: &mut S,
+) -> Result<Next, FrontFault>
     ensures reads { Reads (S.left source.old) (S.left source.new) window.old window.new result }
     ensures kept_first { (t : RequestText) (rest : List ℕ) → Begins window.old t rest
         → (source.new ≡ source.old) × Answers window.old (S.left source.new) window.new result }
@@ -123,7 +132,7 @@ fn answer<S: Source>(alloc: Global, window: &mut Window, source: &mut S) -> Resu
     ensures few { length window.new ≤ HEAD_MOST }
 {
     match meet_head(alloc, window, source) {
-        Ok(Some(head)) => finish(alloc, window, head, source),
+        Ok(Some(head)) => finish(alloc, bodies, window, head, source),
         Ok(None) => Ok(Next::Ended),
         Err(fault) => Err(fault),
     }

@@ -1,4 +1,5 @@
 use Rattle.std.proofs.Common.{◌≡◌, length, rules}
+use Rattle.http_front.specs.Finds.{raw_from}
 use Rattle.http_front.proofs.BodyLemmas.{Finishes-whole, Finishes-memory, Finishes-short, Finishes-fault, kept_full, kept_answers}
 use Rattle.http_front.proofs.body.finish.Goals as goal
 
@@ -25,24 +26,25 @@ returns-in-Err-fill_body-clause-kept_first g c t rest begins = (
   kept_answers _ _ c.args.window.now c.take_kept.new.window c.args.head _ t rest c.requires (returns-in-Err-fill_body-clause-finishes g c) begins,
 )
 
-pub returns-in-Ok-with_body-clause-finishes : goal.returns-in-Ok-with_body-clause-finishes
-returns-in-Ok-with_body-clause-finishes g c =
+pub returns-in-Ok-share-clause-finishes : goal.returns-in-Ok-share-clause-finishes
+returns-in-Ok-share-clause-finishes g c =
+    let is : c.with_body.result ≡ raw_from c.args.head.parts c.fill_body.new.body.items = search rules in
     Finishes-whole _ _ c.args.window.now c.take_kept.new.window c.args.head c.in-Ok.body.items c.fill_body.new.body.items c.requires c.in-Ok.ensures.takes
-    c.in-Ok-true.field-0 c.in-Ok-with_body.raw c.in-Ok-true.field-0-test c.in-Ok-true.ensures.fills c.in-Ok-with_body.ensures
+    c.in-Ok-true.field-0 c.with_body.result c.in-Ok-true.field-0-test c.in-Ok-true.ensures.fills is
 
-pub returns-in-Ok-with_body-clause-kept_first : goal.returns-in-Ok-with_body-clause-kept_first
-returns-in-Ok-with_body-clause-kept_first g c t rest begins = (
+pub returns-in-Ok-share-clause-kept_first : goal.returns-in-Ok-share-clause-kept_first
+returns-in-Ok-share-clause-kept_first g c t rest begins = (
   c.in-Ok-true.ensures.whole (kept_full c.args.window.now c.take_kept.new.window c.args.head c.in-Ok.body.items t rest c.requires c.in-Ok.ensures.takes begins),
-  kept_answers _ _ c.args.window.now c.take_kept.new.window c.args.head _ t rest c.requires (returns-in-Ok-with_body-clause-finishes g c) begins,
+  kept_answers _ _ c.args.window.now c.take_kept.new.window c.args.head _ t rest c.requires (returns-in-Ok-share-clause-finishes g c) begins,
 )
 
-pub returns-in-Err-with_body-clause-finishes : goal.returns-in-Err-with_body-clause-finishes
-returns-in-Err-with_body-clause-finishes g c =
+pub returns-in-Err-share-clause-finishes : goal.returns-in-Err-share-clause-finishes
+returns-in-Err-share-clause-finishes g c =
     Finishes-memory _ _ c.args.window.now c.take_kept.new.window c.args.head c.in-Ok.body.items c.fill_body.new.body.items c.requires c.in-Ok.ensures.takes
     c.in-Ok-true.field-0 c.in-Ok-true.field-0-test c.in-Ok-true.ensures.fills
 
-pub returns-in-Err-with_body-clause-kept_first : goal.returns-in-Err-with_body-clause-kept_first
-returns-in-Err-with_body-clause-kept_first g c t rest begins = (
+pub returns-in-Err-share-clause-kept_first : goal.returns-in-Err-share-clause-kept_first
+returns-in-Err-share-clause-kept_first g c t rest begins = (
   c.in-Ok-true.ensures.whole (kept_full c.args.window.now c.take_kept.new.window c.args.head c.in-Ok.body.items t rest c.requires c.in-Ok.ensures.takes begins),
   tt,
 )

@@ -1,4 +1,4 @@
-use Rattle.std.proofs.Common.{ℕ, List, ◌++◌, sym, ◌∙◌, subst, Ok, Err, Some, None}
+use Rattle.std.proofs.Common.{ℕ, List, ◌++◌, sym, ◌∙◌, subst}
 use Rattle.http_front.specs.Requests.{Begins}
 use Rattle.http_front.specs.Reads.{Answers}
 use Rattle.http_front.proofs.CauseLemmas.{Begins-head}

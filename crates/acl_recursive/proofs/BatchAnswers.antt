@@ -29,7 +29,7 @@ use Rattle.namespace_model.specs.SetAccessRecursive.{Batch, Failure, batch_below
 use Rattle.namespace_model.specs.Sound.{IsOperation, IsTokenOf}
 use Rattle.namespace_model.specs.Step.{acts, outcome}
 use Rattle.namespace_model.specs.Trees.{Path, Tree, at, is_below, subtree}
-use Rattle.namespace_model.specs.Ways.{Way, reached, missing, blocked, closed, way_of, read_on}
+use Rattle.namespace_model.specs.Ways.{reached, way_of, read_on}
 use Rattle.namespace_model.proofs.Alikeness.{among_left, among_right}
 use Rattle.namespace_model.proofs.Lookups.{keys_among}
 use Rattle.namespace_model.proofs.PageOrder.{Ascends, filter_ascends, keys_ascend}
@@ -59,13 +59,16 @@ use Rattle.path_walk.specs.Batches.{edited_all, paths_in as put_paths, puts_by}
 use Rattle.path_walk.specs.Calls.{IsCall, Answers, GoesOn}
 use Rattle.path_walk.specs.Finds.{read_to, last_read, IsFindFor, IsNeedOfFind}
 use Rattle.path_walk.specs.Settles.{IsBatchOf}
-use Rattle.path_walk.specs.Visits.{AreLookedAt, IsHeldAndShown, end_of}
-use Rattle.path_walk.proofs.AnswerLemmas.{answer_is_draft, read_need, outcome_reads}
+use Rattle.path_walk.specs.Visits.{AreLookedAt, IsHeldAndShown}
+use Rattle.path_walk.proofs.AnswerLemmas.{read_need, outcome_reads}
 use Rattle.path_walk.proofs.BatchLemmas.{EachIsPut, puts_ascending}
 use Rattle.path_walk.proofs.CallLemmas.{agrees_earlier, looked_later}
 use Rattle.path_walk.proofs.EditLemmas.{meta_leaves}
 use Rattle.path_walk.proofs.FindLemmas.{node_found, ids_of_append}
+use Rattle.path_walk.proofs.CallAnswers.{found_answer, found_lacks}
 use Rattle.path_walk.proofs.LookAnswers as look
+use Rattle.path_walk.proofs.ReadLemmas.{or_tells}
+use Rattle.path_walk.proofs.TouchLemmas.{among_either}
 use Rattle.path_walk.proofs.SetLemmas.{one_has, one_lies}
 use Rattle.path_walk.proofs.TouchLemmas.{touched_need}
 use Rattle.path_walk.proofs.TrailLemmas.{one_of_append, numbers-append}
@@ -75,6 +78,7 @@ use Rattle.path_order.specs.PagesBelow.{ids_in, AreHeld, AreNodesOf}
 use Rattle.path_order.specs.Starts.{NeedsOnTheWay}
 use Rattle.path_order.proofs.NodeIds.{nodes_ids}
 use Rattle.path_order.proofs.PageLemmas.{held_grows, last_page}
+use Rattle.path_order.proofs.TokenLemmas.{none_among}
 use Rattle.path_order.proofs.SubtreeLists.{subtree_way}
 use Rattle.path_order.proofs.WholeLemmas.{looked_ids}
 use Rattle.acl_recursive.specs.declared.asked.Asked.{Asked}
@@ -84,10 +88,6 @@ use Rattle.acl_recursive.specs.declared.walk.Step.{Step}
 use Rattle.acl_recursive.specs.Batched.{Turns, batch_by, edit_of, edits_of, failed_node, failed_nodes, failure_of, failures_of, nodes_behind, nodes_in, path_in, paths_in, turns_of, IsAsked, IsBeginning, IsRead, IsRun, IsTally, IsTarget, NeedsOfBatch}
 use Rattle.acl_recursive.proofs.RunLemmas.{run_in}
 
-or_tells : (a b : Bool) → (a || b) ≡ true → (a ≡ true) ⊎ (b ≡ true)
-or_tells true b e = inl refl
-or_tells false b e = inr e
-
 or_false : (a : Bool) → a ≡ (a || false)
 or_false true = refl
 or_false false = refl
@@ -96,11 +96,6 @@ or_false false = refl
 drop_known : (a b c : Bool) → (c ≡ true → a ≡ true) → (a || (c || b)) ≡ (a || b)
 drop_known a b true h = ap (λ x. x || true) (h refl) ∙ sym (ap (λ x. x || b) (h refl))
 drop_known a b false h = refl
-
-among_either : (p : Path) (ps qs : List Path) → Among p (ps ++ qs) → Among p ps ⊎ Among p qs
-among_either p [] qs h = inr h
-among_either p (x ∷ ps) qs (inl e) = inl (inl e)
-among_either p (x ∷ ps) qs (inr h) = elim (among_either p ps qs h) [ inl k ↦ inl (inr k) | inr k ↦ inr k ]
 
 in_batch : (p : Path) (a b c d : List Path) → Among p (c ++ d) → Among p ((a ++ (b ++ c)) ++ d)
 in_batch p a b c d h = elim (among_either p c d h) [
@@ -180,10 +175,6 @@ behind_ascends : (t : Tree) (dir : Path) (token : Option Path) → Ascends (node
 behind_ascends t dir None = keys_ascend t (is_prefix dir)
 behind_ascends t dir (Some token) = filter_ascends (is_above token) (subtree t dir) (keys_ascend t (is_prefix dir))
 
-none_among : (xs : List Path) → ((q : Path) → Among q xs → ⊥) → xs ≡ []
-none_among [] h = refl
-none_among (x ∷ xs) h = absurd (h x (inl refl))
-
 -- ---- the way to the token
 
 -- the path itself may be on the way to the token; it was read before
@@ -251,46 +242,11 @@ module _ (call : Call) (is : IsCall call) (asked : Asked) (asks_for : IsAsked ca
   pub lost_answer : (held : Held) (shown : Shown) (f : Find) (other : Found) (reply : Reply) (d : Draft) → IsFindFor shown caller path f → AreLookedAt held shown f.ids.items → f.found ≡ other
       → IsAnswered call.request.now.close reply f.ids.items d → ((some : Node → Outcome) → found_outcome path some other ≡ answered reply) → Answers held shown call (Ok d)
   lost_answer held shown f other reply d finds looked same answers says =
-      answer_is_draft held shown call.request.now call.moment call.fresh reply f.ids.items d is.sound looked answers (λ parts t e possible of.
-      let find = finds parts t possible.stands possible.agrees in
-      let some = some_of t e.entry in (
-        read_to t caller path,
-        step t e.entry of.asks ∙ look.found_is t e.entry path some caller (by_it e.entry of.asks) f.found find.found_is
-            ∙ ap (λ o. reading (read_to t caller path) (found_outcome path some o)) same ∙ ap (reading (read_to t caller path)) (says some),
-        λ id. ap (is_one_of id) find.read,
-      ))
-
-  abbrev is_reached_way : Way → Bool
-  is_reached_way reached = true
-  is_reached_way (missing d) = false
-  is_reached_way (blocked q) = false
-  is_reached_way (closed q r) = false
-
-  -- whatever is found, what is read to find it comes first
-  found_there : (t : Tree) (e : Entry) → e.request ≡ call.request.now → (after : Outcome) × (acts t e e.request.op ≡ reading (read_to t caller path) after)
-  found_there t e asks = by_way (way_of t caller path) refl (at t path) refl
-    where
-      some : Node → Outcome
-      some = some_of t e
-
-      lost : way_of t caller path ≢ reached → (after : Outcome) × (acts t e e.request.op ≡ reading (read_to t caller path) after)
-      lost un =
-          let s = found.Stopped (end_of (way_of t caller path)) in
-          (found_outcome path some s, step t e asks ∙ look.found_is t e path some caller (by_it e asks) s (un, refl))
-
-      by_way : (w : Way) → way_of t caller path ≡ w → (o : Option Node) → at t path ≡ o → (after : Outcome) × (acts t e e.request.op ≡ reading (read_to t caller path) after)
-      by_way reached same None none = (found_outcome path some found.Nothing, step t e asks ∙ look.found_is t e path some caller (by_it e asks) found.Nothing (same, none))
-      by_way reached same (Some x) there = (some x, step t e asks ∙ look.node_is t e path some caller (by_it e asks) x same there)
-      by_way (missing d) same o there = lost (λ h. false≢true (ap is_reached_way (sym same ∙ h)))
-      by_way (blocked q) same o there = lost (λ h. false≢true (ap is_reached_way (sym same ∙ h)))
-      by_way (closed q r) same o there = lost (λ h. false≢true (ap is_reached_way (sym same ∙ h)))
+      found_answer held shown call some_of f reply d is step finds looked answers (λ t e asks comes. ap (λ o. found_outcome path (some_of t e) o) same ∙ says (some_of t e))
 
   -- a stripe on the way to the node isn't held
   pub find_needed : (held : Held) (shown : Shown) (n : Need) → IsNeedOfFind held shown caller path n → Answers held shown call (Err (stop.Need n))
-  find_needed held shown n needs =
-      read_need held shown call.request.now call.moment call.fresh n needs.within needs.asks needs.lacks (λ parts t e possible of.
-      let there = found_there t e.entry of.asks in
-      (read_to t caller path, outcome_reads t e (read_to t caller path) there.0 there.1, needs.needed parts t possible.stands possible.agrees))
+  find_needed held shown n needs = found_lacks held shown call some_of n is step needs
 
   -- the id of a node that was found is one of those that were read
   id_read : (parts : Parts) (t : Tree) → Stands parts t → (id : ℕ) (x : Node) → way_of t caller path ≡ reached → at t path ≡ Some x → follow parts 0 path ≡ Some id → is_one_of id (ids_of parts (read_to t caller path)) ≡ true

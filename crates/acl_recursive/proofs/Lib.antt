@@ -1,4 +1,3 @@
-pub mod IdLemmas
 pub mod WalkLemmas
 pub mod TurnLemmas
 pub mod TallyLemmas

@@ -15,8 +15,8 @@ use Rattle.inode_tree.specs.Inodes.{node_of}
 use Rattle.inode_tree.specs.Promises.{numbers_of}
 use Rattle.path_walk.specs.Batches.{NodeEdit, puts_by, edits_by}
 use Rattle.path_walk.proofs.TrailLemmas.{numbers-append}
-use Rattle.path_order.specs.declared.cursor.Seen.{Seen}
 use Rattle.path_order.specs.PagesBelow.{ids_in}
+use Rattle.path_order.proofs.IdLemmas.{ids_more}
 use Rattle.acl_recursive.specs.declared.tally.Tally.{Tally}
 use Rattle.acl_recursive.specs.declared.walk.Step.{Step}
 use Rattle.acl_recursive.specs.Batched.{Turns, path_in, edit_to, edit_of, edits_of, failure_of, failures_of, failed_node, failed_nodes, IsTally, IsWithEdit, IsWithFailure}
@@ -56,10 +56,6 @@ count_more p xs x = sum_by-append (λ y. cond (p y) 1 0) xs (x ∷ []) ∙ by_te
 other_way : (b : Bool) (n : ℕ) → cond b n (n + 1) ≡ cond (not b) (n + 1) n
 other_way true n = refl
 other_way false n = refl
-
-ids_more : (seen : List Seen) (s : Seen) → ids_in (seen ++ s ∷ []) ≡ ids_in seen ++ s.id.0 ∷ []
-ids_more [] s = refl
-ids_more (x ∷ seen) s = ap (λ l. x.id.0 ∷ l) (ids_more seen s)
 
 -- each node that is changed is counted once
 count_first : (p : Path × Put → Bool) (x : Path × Put) (xs : List (Path × Put)) → count_by p (x ∷ xs) ≡ (0 + cond (p x) 1 0) + count_by p xs

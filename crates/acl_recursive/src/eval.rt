@@ -1,8 +1,7 @@
 ghost use Rattle.std.specs.Prelude.{◌≡◌, ◌≤◌, ◌<◌, ◌^◌, ◌++◌, IfOk};
-ghost use Rattle.inode_tree.specs.Promises.{IsEvaluated, numbers_of};
+ghost use Rattle.inode_tree.specs.Promises.{IsEvaluated};
 ghost use Rattle.lease_state.specs.declared.lease.TheConstants.{LAST_MOMENT};
 ghost use Rattle.namespace_model.specs.Sound.{IsSound};
-ghost use Rattle.path_order.specs.PagesBelow.{ids_in};
 ghost use Rattle.path_walk.specs.Calls.{IsCall, Answers, GoesOn};
 ghost use Rattle.acl_recursive.specs.Batched.{IsAsked, IsOfBatch, IsRead, IsRun, IsTarget};
 
@@ -14,7 +13,7 @@ use super::turn::for_files;
 use super::walk::{Beginning, begin};
 use inode_tree::{Draft, EvalStop, Fresh, NodeId, View};
 use namespace_model::{Code, Op, Request};
-use path_order::Seen;
+use path_order::{Seen, with_ids};
 use path_walk::{
     Call, Find, Found, answered, look_up, missing_code, refusal, settle_all, stop_reply,
 };
@@ -143,7 +142,7 @@ fn change_all<V: View>(
         }
         Ok(Some(Beginning { walk, way })) => match take_turns(alloc, view, call, asked, walk) {
             Ok(done) => {
-                let reads = with_way(target.reads, way.as_slice())?;
+                let reads = with_ids(target.reads, way.as_slice())?;
                 tell(alloc, view, call, asked, reads, done)
             }
             Err(stop) => Err(stop),
@@ -171,17 +170,6 @@ fn tell<V: View>(
     let all = with_failed(reads, tally.failed_ids.as_slice())?;
     let reply = batch_reply(alloc, call.path, &next, tally.changed, tally.failed)?;
     settle_all(alloc, view, call, all, tally.edits, reply)
-}
-
-// These ids, and behind them those of the nodes on the way.
-fn with_way(reads: Vec<NodeId>, way: &[Seen]) -> Result<Vec<NodeId>, AllocError>
-    ensures { IfOk result (λ ids. numbers_of ids.items ≡ numbers_of reads.items ++ ids_in way.now) }
-{
-    let mut ids = reads;
-    for seen in way {
-        ids.push(seen.id)?;
-    }
-    Ok(ids)
 }
 
 // These ids, and behind them those of the nodes that failed.

@@ -1,5 +1,5 @@
 //! A batch, node by node.
-ghost use Rattle.std.specs.Prelude.{◌≡◌, ◌≢◌, ℕ, [], ◌++◌, option_map, Err, IfOk};
+ghost use Rattle.std.specs.Prelude.{◌≡◌, ◌≢◌, ℕ, [], option_map, Err, IfOk};
 ghost use Rattle.inode_tree.specs.declared.draft.EvalStop.TheVariants as stop;
 ghost use Rattle.inode_tree.specs.declared.need.Need.{Need};
 ghost use Rattle.path_walk.specs.Calls.{IsCall, GoesOn};
@@ -9,6 +9,7 @@ use super::asked::Asked;
 use super::tally::{Tally, take_turn};
 use super::walk::Walk;
 use inode_tree::{EvalStop, View};
+use path_order::path_below;
 use path_text::{Name, Path};
 use path_walk::Call;
 use std::alloc::{AllocError, Global};
@@ -74,21 +75,8 @@ fn resume(
     ensures { IfOk result (λ next. next ≡ resumed dir.now token.now (option_map (λ names. names.items) last.now)) }
 {
     match (last, token) {
-        (Some(names), _) => Ok(Some(path_of(alloc, dir, names.as_slice())?)),
+        (Some(names), _) => Ok(Some(path_below(alloc, dir, names.as_slice())?)),
         (None, Some(token)) => Ok(Some(token.copy(alloc)?)),
         (None, None) => Ok(None),
     }
-}
-
-// The path of these names below another path.
-fn path_of(alloc: Global, dir: &Path, names: &[Name]) -> Result<Path, AllocError>
-    requires path { dir.now ≢ [] }
-    ensures { IfOk result (λ whole. whole ≡ dir.now ++ names.now) }
-{
-    let mut whole = dir.copy(alloc)?;
-    for name in names {
-        let longer = whole.child(alloc, name)?;
-        whole = longer;
-    }
-    Ok(whole)
 }

@@ -1,5 +1,5 @@
 -- What a look at one end of a rename gives.
-use Rattle.std.proofs.Common.{◌≡◌, ℕ, Bool, true, false, List, [], ◌∷◌, ◌++◌, map, Option, Some, None, unwrap_or, refl, ap, sym, subst, ◌∙◌, append-nil}
+use Rattle.std.proofs.Common.{◌≡◌, ℕ, List, [], ◌∷◌, ◌++◌, Option, Some, None, unwrap_or, refl, ap, sym, subst, ◌∙◌, append-nil}
 use Rattle.std.proofs.lemmas.Option.{same_Some}
 use Rattle.namespace_model.specs.declared.caller.Caller.{Caller}
 use Rattle.namespace_model.specs.declared.code.Code.{Code}
@@ -13,7 +13,6 @@ use Rattle.namespace_model.specs.Ways.{Way, reached, way_of, read_on}
 use Rattle.namespace_model.proofs.WayLemmas.{reading_both}
 use Rattle.inode_tree.specs.declared.id.NodeId.{NodeId}
 use Rattle.inode_tree.specs.declared.need.Need.{Need}
-use Rattle.inode_tree.specs.Footprints.{ids_of}
 use Rattle.inode_tree.specs.Inodes.{BareInode, node_of}
 use Rattle.inode_tree.specs.Parts.{Parts, inode_at, follow}
 use Rattle.inode_tree.specs.Promises.{numbers_of}
@@ -24,20 +23,16 @@ use Rattle.path_walk.specs.declared.find.Find.{Find}
 use Rattle.path_walk.specs.declared.find.Found.{Found}
 use Rattle.path_walk.specs.declared.find.Found.TheVariants as found
 use Rattle.path_walk.specs.declared.parent.Parent.{Parent}
-use Rattle.path_walk.specs.declared.stop.Base.{Base}
 use Rattle.path_walk.specs.declared.stop.End.{End}
 use Rattle.path_walk.specs.Answers.{stop_reply}
 use Rattle.path_walk.specs.Finds.{last_read, read_to, IsNeedOfFind, IsLook, IsLookAs}
 use Rattle.path_walk.specs.Parents.{IsParent, IsStop}
-use Rattle.path_walk.specs.Visits.{AreLookedAt, IsHeldAndShown, IsOnTheWay}
+use Rattle.path_walk.specs.Visits.{AreLookedAt, IsOnTheWay}
 use Rattle.path_walk.proofs.AnswerLemmas.{stop_is}
 use Rattle.path_walk.proofs.FindLemmas.{look_finds, node_found, leads_to}
 use Rattle.path_order.specs.declared.cursor.Seen.{Seen}
-use Rattle.path_order.specs.Cursors.{IsAt}
-use Rattle.dir_rename.specs.declared.ends.Looked.{Looked}
-use Rattle.dir_rename.specs.declared.ends.Looked.TheVariants as looked
 use Rattle.dir_rename.specs.declared.ends.Spot.{Spot}
-use Rattle.dir_rename.specs.Ends.{end_step, comes_then, seen_in, IsIn, IsThere, IsSeenHeld, Reads, IsSpotIn, IsSpot, IsLooked, NeedsLook}
+use Rattle.dir_rename.specs.Ends.{end_step, comes_then, seen_in, IsThere, IsSeenHeld, Reads, IsSpotIn, IsSpot, NeedsLook}
 
 -- a path that leads to an inode has its node
 pub node_there : (parts : Parts) (t : Tree) → Stands parts t → (p : Path) (id : ℕ) (y : BareInode) → follow parts 0 p ≡ Some id → inode_at parts id ≡ Some y → at t p ≡ Some (node_of y)
@@ -216,8 +211,3 @@ module _ (held : Held) (shown : Shown) (caller : Caller) (code : Code) (p : Path
         looked = subst (λ (l : List NodeId). AreLookedAt held shown l) (sym reads) (look_finds held shown caller p it is f look).1;
         found_held = subst (λ (o : Option Seen). IsSeenHeld held shown o) (sym seen) (found_so f.found look);
       }
-
--- an answer that is no refusal
-pub is_none : {A : Type 0} (o : Option A) → ((x : A) → o ≡ Some x → ⊥) → o ≡ None
-is_none None h = refl
-is_none (Some x) h = absurd (h x refl)

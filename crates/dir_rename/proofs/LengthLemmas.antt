@@ -1,15 +1,15 @@
 -- How long paths are.
-use Rattle.std.proofs.Common.{◌≡◌, ◌≢◌, ℕ, zero, suc, ◌+◌, ◌-◌, ◌<◌, ◌≤◌, Bool, true, false, ◌||◌, nat_lt, List, [], ◌∷◌, ◌++◌, length, take, drop, refl, ap, sym, subst, ◌∙◌, length-append, append-nil, append_assoc, arith, Some, is_some}
+use Rattle.std.proofs.Common.{◌≡◌, ◌≢◌, ℕ, zero, suc, ◌+◌, ◌<◌, ◌≤◌, Bool, true, false, ◌||◌, nat_lt, List, [], ◌∷◌, ◌++◌, length, take, drop, refl, ap, sym, ◌∙◌, length-append, arith, Some, is_some}
 use Rattle.std.proofs.Math.Seq.{take-suc}
 use Rattle.std.proofs.lemmas.Bool.{false≢true}
 use Rattle.std.proofs.lemmas.Option.{same_Some}
 use Rattle.std.proofs.lemmas.Bool.Decides.{nat_tests}
 use Rattle.std.specs.List.{join_with_byte}
 use Rattle.std.specs.Prelude.{slice_index_or, slice_get}
-use Rattle.namespace_model.specs.Rename.{Moving, grows, is_too_long, text_length}
+use Rattle.namespace_model.specs.Rename.{is_too_long, text_length}
 use Rattle.namespace_model.specs.Trees.{Path}
 use Rattle.dir_rename.specs.declared.lengths.Room.{Room}
-use Rattle.dir_rename.specs.Lengths.{name_bytes, IsRoom, IsOverlong, IsGrowth}
+use Rattle.dir_rename.specs.Lengths.{name_bytes, IsRoom}
 
 pub bytes-append : (p q : Path) → name_bytes (p ++ q) ≡ name_bytes p + name_bytes q
 bytes-append [] q = (let h : name_bytes q ≡ 0 + name_bytes q = omega arith in h)

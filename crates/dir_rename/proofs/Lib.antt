@@ -2,6 +2,5 @@ pub mod ShiftLemmas
 pub mod EndLemmas
 pub mod StageLemmas
 pub mod LengthLemmas
-pub mod BareLemmas
 pub mod ThroughLemmas
 pub mod RenameLemmas

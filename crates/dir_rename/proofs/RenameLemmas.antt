@@ -1,5 +1,5 @@
 -- How far a rename has come, and what its answers owe.
-use Rattle.std.proofs.Common.{◌≡◌, ◌≢◌, ℕ, ◌≤◌, ◌%◌, ◌==◌, Bool, true, false, cond, not, ◌&&◌, List, [], ◌∷◌, ◌++◌, length, Option, Some, None, option_map, unwrap_or, Result, Ok, Err, refl, ap, sym, subst, ◌∙◌, arith}
+use Rattle.std.proofs.Common.{◌≡◌, ◌≢◌, ℕ, ◌≤◌, ◌==◌, Bool, true, false, cond, not, ◌&&◌, List, [], ◌∷◌, ◌++◌, length, Option, Some, None, option_map, unwrap_or, Ok, Err, refl, ap, sym, subst, ◌∙◌, arith}
 use Rattle.std.proofs.lemmas.Bool.{false≢true}
 use Rattle.std.proofs.lemmas.Bool.Decides.{nat_tests}
 use Rattle.std.specs.Option.{option_map_or}
@@ -8,7 +8,6 @@ use Rattle.head_text.specs.ConditionsOf.{conditions_of}
 use Rattle.lease_state.specs.LeaseTable.{lease_may_write}
 use Rattle.namespace_model.specs.declared.caller.Caller.{Caller}
 use Rattle.namespace_model.specs.declared.code.Code.TheVariants.{FilesystemNotFound, SourcePathNotFound, RenameDestinationParentPathNotFound, PathAlreadyExists, ResourceTypeMismatch, DirectoryNotEmpty, RenameTooLong}
-use Rattle.namespace_model.specs.declared.op.Op.TheVariants as op
 use Rattle.namespace_model.specs.declared.reply.Reply.{Reply}
 use Rattle.namespace_model.specs.declared.request.Entry.{Entry}
 use Rattle.namespace_model.specs.declared.request.Request.{Request}
@@ -18,7 +17,7 @@ use Rattle.namespace_model.specs.Outcomes.{Outcome, answered, reading, refused, 
 use Rattle.namespace_model.specs.Refusals.{caller_of, nobody, is_guarded, unmet_for_change, stamps_of, refused_by_lease, refuse_if, or_else}
 use Rattle.namespace_model.specs.Rename.{Moving, rename, rename_node, rename_new, rename_over, rename_into, fitted, shifted, grows, some_too_long}
 use Rattle.namespace_model.specs.Replies.{refusal}
-use Rattle.namespace_model.specs.Sound.{IsSound, IsOperation, IsBelowRoot, CanBeMoved}
+use Rattle.namespace_model.specs.Sound.{IsOperation, IsBelowRoot, CanBeMoved}
 use Rattle.namespace_model.specs.Step.{acts}
 use Rattle.namespace_model.specs.Trees.{Path, Tree, parent, is_below, is_bare, subtree}
 use Rattle.namespace_model.specs.Walks.{walk, missing_code}
@@ -34,7 +33,7 @@ use Rattle.inode_tree.specs.After.{known}
 use Rattle.inode_tree.specs.Footprints.{ids_of}
 use Rattle.inode_tree.specs.Inodes.{BareInode, node_of}
 use Rattle.inode_tree.specs.Parts.{Parts, inode_at, follow, id_at}
-use Rattle.inode_tree.specs.Promises.{numbers_of, is_one_of}
+use Rattle.inode_tree.specs.Promises.{is_one_of}
 use Rattle.inode_tree.specs.Stands.{Stands}
 use Rattle.inode_tree.specs.Views.{Held, Shown, Agrees}
 use Rattle.inode_tree.proofs.FrameLemmas.{short_id}
@@ -51,6 +50,7 @@ use Rattle.path_walk.proofs.QuestionLemmas.{unless_both, unless_rest}
 use Rattle.path_walk.proofs.ReadLemmas.{it_is_one}
 use Rattle.path_walk.proofs.SetLemmas.{one_has, one_lies}
 use Rattle.path_walk.proofs.TrailLemmas.{looked_more}
+use Rattle.path_walk.proofs.BareLemmas.{filled_is}
 use Rattle.path_order.specs.declared.cursor.Seen.{Seen}
 use Rattle.path_order.specs.Cursors.{IsAt}
 use Rattle.path_order.specs.Subtrees.{IsTop, NeedsSubtree}
@@ -67,8 +67,7 @@ use Rattle.dir_rename.specs.Questions.{refusal_new, refusal_over, refusal_by, re
 use Rattle.dir_rename.specs.Shifts.{replaced_at, IsShiftOf}
 use Rattle.dir_rename.specs.Stages.{IsAsked, moving_of, Rest, IsComing, renames, overs, rename_by, id_of, fits, reads_all, moves, IsSource, IsEnds, moved_meta}
 use Rattle.dir_rename.specs.Through.{IsThrough}
-use Rattle.dir_rename.proofs.BareLemmas.{filled_is}
-use Rattle.dir_rename.proofs.StageLemmas.{Always, ReadsMore, NeedsMore, coming_later, begins, coming_as, coming_on, answer_comes, need_comes, look_answer, look_comes, look_needs}
+use Rattle.dir_rename.proofs.StageLemmas.{Always, coming_later, begins, coming_as, coming_on, answer_comes, need_comes, look_answer, look_comes, look_needs}
 
 -- ---- at a later view
 

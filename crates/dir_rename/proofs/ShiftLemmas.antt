@@ -1,5 +1,5 @@
 -- The draft by which a node moves is that of its step.
-use Rattle.std.proofs.Common.{◌≡◌, inl, inr, ℕ, suc, ◌+◌, ◌==◌, Bool, true, false, cond, ◌||◌, ◌&&◌, List, [], ◌∷◌, ◌++◌, map, length, Option, Some, None, option_map, unwrap_or, is_some, refl, ap, sym, subst, ◌∙◌, append-nil, arith}
+use Rattle.std.proofs.Common.{◌≡◌, inl, inr, ℕ, ◌+◌, ◌==◌, Bool, true, false, cond, ◌||◌, ◌&&◌, List, [], ◌∷◌, ◌++◌, map, length, Option, Some, None, option_map, unwrap_or, refl, ap, sym, subst, ◌∙◌, append-nil, arith}
 use Rattle.std.proofs.lemmas.Bool.{false≢true}
 use Rattle.std.proofs.lemmas.Option.{same_Some}
 use Rattle.std.specs.Cmp.{unsigned_Decides}
@@ -8,19 +8,17 @@ use Rattle.std.specs.FinMap as fin
 use Rattle.std.specs.FinMap.{find}
 use Rattle.std.specs.Ordering.{eq_by_cmp}
 use Rattle.path_text.specs.Paths.{path_cmp, is_prefix}
-use Rattle.namespace_model.specs.declared.reply.Reply.{Reply}
 use Rattle.namespace_model.specs.declared.request.Entry.{Entry}
 use Rattle.namespace_model.specs.declared.request.Request.{Request}
 use Rattle.namespace_model.specs.Effects.{Effect, Put, put_by, stamp}
 use Rattle.namespace_model.specs.Locality.{Among}
-use Rattle.namespace_model.specs.Nodes.{Node}
 use Rattle.namespace_model.specs.Outcomes.{Outcome, once, reading, without_repeats}
 use Rattle.namespace_model.specs.Rename.{Moving, shifted}
 use Rattle.namespace_model.specs.Replies.{success, stamp_fields}
 use Rattle.namespace_model.specs.Sound.{IsSound}
 use Rattle.namespace_model.specs.Step.{outcome, with_close, closing}
 use Rattle.namespace_model.specs.Trees.{Path, Tree, parent}
-use Rattle.namespace_model.proofs.Effected.{is_in, in_tells, among_is_in, same_behind}
+use Rattle.namespace_model.proofs.Effected.{is_in, among_is_in, same_behind}
 use Rattle.namespace_model.proofs.Lookups.{path_tells, same_path}
 use Rattle.namespace_model.proofs.Prefixes.{front_of_append, front_of_itself, length_append, parent_of_child}
 use Rattle.namespace_model.proofs.StepLocality.{among_once}
@@ -34,7 +32,7 @@ use Rattle.inode_tree.specs.declared.need.Need.{Need}
 use Rattle.inode_tree.specs.declared.placed.Placed.{Placed}
 use Rattle.inode_tree.specs.After.{Relink, relinks, Turn, stays_at, turns, turns_by, turns_on, turned, stays, relinked, relinked_in, inode_with, meta_of, with_id, known, id_in, move_links, drawn_ids, outcome_on}
 use Rattle.inode_tree.specs.After as turn
-use Rattle.inode_tree.specs.Changes.{edited, linked, unlinked, with_content, node_after}
+use Rattle.inode_tree.specs.Changes.{node_after}
 use Rattle.inode_tree.specs.ChildLists.{name_cmp}
 use Rattle.inode_tree.specs.Drawing.{next_ids}
 use Rattle.inode_tree.specs.Footprints.{ids_of, written_ids}
@@ -54,7 +52,7 @@ use Rattle.path_walk.specs.Holds.{AreHeldToWrite, LacksStripe}
 use Rattle.path_walk.specs.Visits.{AreLookedAt}
 use Rattle.path_walk.proofs.EditLemmas.{meta_leaves}
 use Rattle.path_walk.proofs.HoldLemmas.{written_need}
-use Rattle.path_walk.proofs.SetLemmas.{one_has, ids_once, once_among}
+use Rattle.path_walk.proofs.SetLemmas.{ids_once, once_among}
 use Rattle.dir_rename.specs.declared.shift.Shift.{Shift}
 use Rattle.dir_rename.specs.Shifts.{replaced_at, IsShiftIn, IsShift, dropped, shifts, with_old, to_write, IsShifted}
 

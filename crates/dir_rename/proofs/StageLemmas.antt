@@ -1,8 +1,7 @@
 -- How a rename goes on: what comes then is said in other words, more is read, it is answered, or a stripe is needed.
-use Rattle.std.proofs.Common.{◌≡◌, ◌≢◌, ℕ, ◌<◌, ◌||◌, Bool, true, false, List, [], ◌∷◌, ◌++◌, Option, Some, None, Result, Ok, Err, refl, ap, sym, subst, ◌∙◌}
+use Rattle.std.proofs.Common.{◌≡◌, ℕ, ◌<◌, ◌||◌, true, false, List, [], ◌++◌, Ok, Err, refl, ap, sym, subst, ◌∙◌}
 use Rattle.std.proofs.lemmas.Bool.{false≢true}
 use Rattle.lock_core.specs.declared.object.LockMode.TheVariants.{Shared}
-use Rattle.namespace_model.specs.declared.caller.Caller.{Caller}
 use Rattle.namespace_model.specs.declared.code.Code.{Code}
 use Rattle.namespace_model.specs.declared.reply.Reply.{Reply}
 use Rattle.namespace_model.specs.declared.request.Entry.{Entry}
@@ -33,7 +32,7 @@ use Rattle.path_walk.proofs.SetLemmas.{lies_more}
 use Rattle.path_walk.proofs.TrailLemmas.{one_of_append}
 use Rattle.dir_rename.specs.declared.ends.Spot.{Spot}
 use Rattle.dir_rename.specs.Ends.{end_step, comes_then, Reads, IsSpot, NeedsLook}
-use Rattle.dir_rename.specs.Stages.{Rest, IsComingIn, IsComing}
+use Rattle.dir_rename.specs.Stages.{Rest, IsComing}
 
 -- it is so at a later view too
 pub coming_later : {O : Type 0} {held later : Held} {over over_later : O} {shown shown_later : Shown} → GoesOn held later over over_later shown shown_later → (call : Call) (reads : List NodeId) (rest : Rest)

@@ -1,19 +1,17 @@
 -- A look through all that moves along, node by node.
-use Rattle.std.proofs.Common.{◌≡◌, ◌≢◌, ℕ, ◌%◌, Bool, true, false, ◌||◌, List, [], ◌∷◌, ◌++◌, map, Option, Some, None, is_some, refl, sym, ap, subst, ◌∙◌, append_assoc, append-nil}
+use Rattle.std.proofs.Common.{◌≡◌, ◌≢◌, ℕ, Bool, true, false, ◌||◌, List, [], ◌∷◌, ◌++◌, map, Option, Some, None, is_some, refl, sym, ap, subst, ◌∙◌, append_assoc, append-nil}
 use Rattle.std.proofs.lemmas.Bool.{false≢true}
 use Rattle.std.specs.List.{list_any}
 use Rattle.namespace_model.specs.Effects.{moved}
 use Rattle.namespace_model.specs.Pages.{above}
 use Rattle.namespace_model.specs.Rename.{is_too_long}
-use Rattle.namespace_model.specs.Trees.{Path, Tree, at, is_below, subtree}
+use Rattle.namespace_model.specs.Trees.{Path, Tree, at, subtree}
 use Rattle.namespace_model.proofs.Effected.{moved_below}
-use Rattle.namespace_model.proofs.Lookups.{among_keys}
 use Rattle.inode_tree.specs.declared.id.NodeId.{NodeId}
 use Rattle.inode_tree.specs.declared.need.Need.{Need}
 use Rattle.inode_tree.specs.Footprints.{ids_of}
 use Rattle.inode_tree.specs.After.{with_id}
-use Rattle.inode_tree.specs.Inodes.{BareInode}
-use Rattle.inode_tree.specs.Parts.{Parts, id_at, follow}
+use Rattle.inode_tree.specs.Parts.{Parts, follow}
 use Rattle.inode_tree.specs.Promises.{numbers_of}
 use Rattle.inode_tree.specs.Stands.{Stands}
 use Rattle.inode_tree.specs.Views.{Held, Shown, Agrees, Grows}
@@ -29,9 +27,10 @@ use Rattle.path_order.specs.PagesBelow.{below, last_of}
 use Rattle.path_order.specs.Starts.{IsAtFor}
 use Rattle.path_order.specs.Subtrees.{IsTop, NeedsSubtree}
 use Rattle.path_order.proofs.CursorLemmas.{end_is, is_there}
-use Rattle.path_order.proofs.PageLemmas.{below_of, next_is, nothing_is}
-use Rattle.path_order.proofs.SubtreeLists.{subtree_is}
+use Rattle.path_order.proofs.PageLemmas.{next_is, last_more}
 use Rattle.path_order.proofs.WholeLemmas.{all_below}
+use Rattle.path_order.proofs.SubtreeWalks as walks
+use Rattle.path_order.proofs.SubtreeWalks.{whole_came}
 use Rattle.dir_rename.specs.declared.lengths.Room.{Room}
 use Rattle.dir_rename.specs.declared.through.Through.{Through}
 use Rattle.dir_rename.specs.Lengths.{IsRoom, IsOverlong}
@@ -95,10 +94,6 @@ begins_so held shown p room top c ids too_long is looked these long from = recor
     or_false true = refl
     or_false false = refl
 
-last_more : (token : Path) (done : List Path) (q : Path) → last_of token (done ++ q ∷ []) ≡ q
-last_more token [] q = refl
-last_more token (p ∷ done) q = last_more p done q
-
 -- the walk came to a node
 module _ (held : Held) (old new : Shown) (p : Path) (room : Room) (before after : Cursor) (ids : List NodeId) (too_long : Bool) (grows : Grows old new)
     (is : IsPassing held old p room before ids too_long) where
@@ -114,22 +109,10 @@ module _ (held : Held) (old new : Shown) (p : Path) (room : Room) (before after 
       whole : (parts : Parts) (t : Tree) → Stands parts t → Agrees new parts → subtree t p ≡ p ∷ is.done
       whole parts t stands agrees =
           let so_far = is.so_far parts t stands (agrees_before old new parts grows agrees) in
-          let none = step p (last_of p is.done) is.goes_on parts t stands agrees in
-          let all : below t p ≡ is.done = so_far.left ∙ ap (λ l. is.done ++ l) (nothing_is t p (last_of p is.done) none.0) ∙ append-nil is.done in
-          subtree_is t p so_far.there ∙ ap (λ (l : List Path). p ∷ l) all
+          whole_came t p is.done so_far.there so_far.left (step p (last_of p is.done) is.goes_on parts t stands agrees).0
 
   pub next_lacks : (n : Need) → ((r k : Path) → IsCursor old r k before → NeedsNext held old r k n) → NeedsSubtree held new p n
-  next_lacks n step =
-      let needs = step p (last_of p is.done) is.goes_on in
-      record {
-        within = needs.within;
-        asks = needs.asks;
-        lacks = needs.lacks;
-        needed = λ parts t stands agrees.
-            let one = needs.needed parts t stands (agrees_before old new parts grows agrees) in
-            let next = one.1.1.0 in
-            (one.0, (one.1.0, (among_keys t (is_below p) one.0 next.next.there (below_of p one.0 next.below), (next.leads, one.1.1.1))));
-      }
+  next_lacks = walks.next_lacks held old new p (last_of p is.done) before grows is.goes_on
 
   module _ (seen : Seen) (step : (r k : Path) → IsCursor old r k before → IsNextSeen held new r k after (Some seen)) where
     abbrev seen_next : IsNextSeen held new p (last_of p is.done) after (Some seen)

@@ -1,5 +1,5 @@
 -- One end of a rename: what comes of a step that goes to a path, asks its directory, and looks at its node.
-use Rattle.std.specs.Prelude.{◌≡◌, ℕ, ◌<◌, true, false, List, ◌∷◌, ◌++◌, [], Option, Some, None}
+use Rattle.std.specs.Prelude.{◌≡◌, ◌<◌, true, false, List, ◌∷◌, ◌++◌, [], Option, Some, None}
 use Rattle.lock_core.specs.declared.object.LockMode.TheVariants.{Shared}
 use Rattle.namespace_model.specs.declared.caller.Caller.{Caller}
 use Rattle.namespace_model.specs.declared.code.Code.{Code}

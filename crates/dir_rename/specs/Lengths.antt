@@ -1,5 +1,5 @@
 -- How much room a path leaves for what is below it: names, and bytes.
-use Rattle.std.specs.Prelude.{◌≡◌, ◌≢◌, ℕ, suc, ◌+◌, Bool, List, [], ◌∷◌, ◌++◌, length}
+use Rattle.std.specs.Prelude.{◌≡◌, ◌≢◌, ℕ, suc, ◌+◌, Bool, [], ◌∷◌, ◌++◌, length}
 use Rattle.namespace_model.specs.Rename.{Moving, grows, is_too_long, text_length}
 use Rattle.namespace_model.specs.Trees.{Path}
 use Rattle.dir_rename.specs.declared.lengths.Room.{Room}

@@ -1,10 +1,10 @@
 -- Where a rename has come: what was found so far, what was read for it, and what comes then.
-use Rattle.std.specs.Prelude.{◌≡◌, ℕ, List, [], ◌∷◌, ◌++◌, Option, Some, None, option_map, unwrap_or}
+use Rattle.std.specs.Prelude.{◌≡◌, ℕ, List, [], ◌∷◌, ◌++◌, Option, option_map, unwrap_or}
 use Rattle.namespace_model.specs.declared.code.Code.TheVariants.{RenameDestinationParentPathNotFound, RenameTooLong}
 use Rattle.namespace_model.specs.declared.op.Op.{Op}
 use Rattle.namespace_model.specs.declared.op.Op.TheVariants as op
 use Rattle.namespace_model.specs.declared.request.Entry.{Entry}
-use Rattle.namespace_model.specs.Outcomes.{Outcome, reading, refused, unless}
+use Rattle.namespace_model.specs.Outcomes.{Outcome, reading, unless}
 use Rattle.namespace_model.specs.Refusals.{caller_of, refuse_if}
 use Rattle.namespace_model.specs.Rename.{Moving, some_too_long, shifted, fitted, rename_new, rename_over, rename_into, rename_node}
 use Rattle.namespace_model.specs.Step.{acts}

@@ -1,5 +1,5 @@
 -- The answer of a call that makes a node is that of its step, once it is known what comes of it.
-use Rattle.std.proofs.Common.{◌≡◌, List, Option, Some, Result, Ok, unwrap_or, refl, ap, subst, ◌∙◌}
+use Rattle.std.proofs.Common.{◌≡◌, List, Option, Some, Ok, unwrap_or, refl, ap, subst, ◌∙◌}
 use Rattle.namespace_model.specs.declared.code.Code.TheVariants.{ResourceTypeMismatch}
 use Rattle.namespace_model.specs.declared.reply.Reply.{Reply}
 use Rattle.namespace_model.specs.declared.request.Entry.{Entry}

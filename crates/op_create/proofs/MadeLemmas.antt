@@ -1,5 +1,5 @@
 -- The draft by which new nodes come to stand is that of the step.
-use Rattle.std.proofs.Common.{◌≡◌, ◌≢◌, ℕ, zero, suc, pred, ◌+◌, ◌≤◌, ◌==◌, Bool, true, false, cond, ◌||◌, nat_lt, leb, List, [], ◌∷◌, ◌++◌, map, flat_map, zip, length, Option, Some, None, option_and_then, option_map, IsSome, Result, Ok, Err, refl, ap, sym, ◌∙◌, append-nil, arith}
+use Rattle.std.proofs.Common.{◌≡◌, ◌≢◌, ℕ, zero, suc, pred, ◌+◌, ◌≤◌, ◌==◌, Bool, true, false, cond, ◌||◌, nat_lt, leb, List, [], ◌∷◌, ◌++◌, map, flat_map, zip, length, Option, Some, None, option_and_then, option_map, IsSome, Ok, Err, refl, ap, sym, ◌∙◌, append-nil, arith}
 use Rattle.std.proofs.lemmas.Bool.Decides.{nat_tests}
 use Rattle.std.specs.Cmp.{unsigned_Decides}
 use Rattle.std.specs.Ordering.{eq_by_cmp}
@@ -45,25 +45,13 @@ use Rattle.path_walk.specs.declared.call.Call.{Call}
 use Rattle.path_walk.specs.Calls.{IsCall, Answers}
 use Rattle.path_walk.proofs.HoldLemmas.{written_need}
 use Rattle.path_walk.proofs.SetLemmas.{ids_once}
+use Rattle.path_walk.proofs.Truths.{both_same, swapped}
 use Rattle.op_create.specs.declared.nodes.NewNode.{NewNode}
 use Rattle.op_create.specs.declared.place.Place.{Place}
 use Rattle.op_create.specs.Creates.{IsCreate, making_of, IsPlace, LeadsTo, replaced_path}
 use Rattle.op_create.specs.Chains.{Maker, maker_of, chained, dropped, to_write, IsMade}
 use Rattle.op_create.proofs.ChainLemmas.{maker_for, paths_from, paths_are, not_among, chain_once, once_all, length_paths, none_put, SaysAs, links_here, chain_same}
 use Rattle.op_create.proofs.CreateLemmas.{caller_is, step_is}
-
--- ---- truth values
-
-both_same : {A : Type 0} (b : Bool) (x : A) → cond b x x ≡ x
-both_same true x = refl
-both_same false x = refl
-
--- two tests of which one alone may hold can be asked in either order
-swapped : {A : Type 0} (a b : Bool) (f : A → A) (v x : A) → (a ≡ true → b ≡ true → ⊥) → cond a (f (cond b v x)) (cond b v x) ≡ cond b v (cond a (f x) x)
-swapped true true f v x apart = absurd (apart refl refl)
-swapped true false f v x apart = refl
-swapped false true f v x apart = refl
-swapped false false f v x apart = refl
 
 -- ---- ids
 

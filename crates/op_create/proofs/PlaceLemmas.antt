@@ -2,47 +2,37 @@
 use Rattle.std.proofs.Common.{◌≡◌, ◌≢◌, inl, inr, ℕ, zero, suc, ◌+◌, ◌-◌, ◌==◌, ◌<◌, ◌≤◌, Bool, true, false, cond, not, ◌&&◌, List, [], ◌∷◌, ◌++◌, length, take, drop, Option, Some, None, option_map, is_some, unwrap_or, Result, Ok, Err, refl, ap, sym, subst, ◌∙◌, append_assoc, append-nil, arith}
 use Rattle.std.proofs.lemmas.Bool.{false≢true}
 use Rattle.std.proofs.lemmas.Bool.Decides.{leb_tells}
-use Rattle.std.proofs.lemmas.Option.{same_Some}
 use Rattle.std.proofs.Math.Logic.{∥∥₁_elim}
 use mathlib.Core.HLevel.{⊥_prop}
-use Rattle.std.specs.Cmp.Lexicographic.{nat_list_cmp_total}
 use Rattle.std.specs.FinMap as fin
-use Rattle.std.specs.FinMap.{find}
 use Rattle.namespace_model.specs.declared.caller.Caller.{Caller}
 use Rattle.namespace_model.specs.declared.code.Code.TheVariants.{ResourceTypeMismatch, DirectoryNotEmpty}
 use Rattle.namespace_model.specs.declared.denied.Refusal.{Refusal}
 use Rattle.namespace_model.specs.declared.op.Op.{Op}
-use Rattle.namespace_model.specs.declared.op.Op.TheVariants as op
 use Rattle.namespace_model.specs.declared.reply.Reply.{Reply}
 use Rattle.namespace_model.specs.declared.request.Entry.{Entry}
 use Rattle.namespace_model.specs.declared.request.Request.{Request}
 use Rattle.namespace_model.specs.Create.{Making, create, create_from, create_in, create_under, create_over, create_new, made, made_below, new_nodes}
-use Rattle.namespace_model.specs.Locality.{Among}
 use Rattle.namespace_model.specs.Nodes.{Node, blank, is_directory, is_directory_content, has_kind}
 use Rattle.namespace_model.specs.Outcomes.{Outcome, answered, reading, unless, noted}
 use Rattle.namespace_model.specs.Refusals.{caller_of, lacks, or_else, refuse_if, is_guarded, exists_already, is_unmet, is_unmet_without}
 use Rattle.namespace_model.specs.Sound.{IsOperation}
-use Rattle.namespace_model.specs.Trees.{Path, Tree, at, parent, is_bare, children, is_child}
+use Rattle.namespace_model.specs.Trees.{Path, Tree, at, parent, is_bare}
 use Rattle.namespace_model.specs.Walks.{ended, hand_on}
 use Rattle.namespace_model.specs.Ways.{Way, reached, missing, blocked, closed, passed, met, may_enter, base_of, way_from, way_of, read_on}
 use Rattle.namespace_model.proofs.WayLemmas.{reading_both}
 use Rattle.namespace_model.proofs.Effected.{drop_front}
-use Rattle.namespace_model.proofs.Lookups.{among_keys, keys_among}
-use Rattle.namespace_model.proofs.Prefixes.{length_append, name_child, child_name, parent_name}
+use Rattle.namespace_model.proofs.Prefixes.{length_append, parent_name}
 use Rattle.inode_tree.specs.declared.draft.EvalStop.TheVariants as stop
 use Rattle.inode_tree.specs.declared.id.NodeId.{NodeId}
 use Rattle.inode_tree.specs.declared.need.Need.{Need}
 use Rattle.inode_tree.specs.ChildLists.{name_cmp}
-use Rattle.inode_tree.specs.Index.{IsIndex}
 use Rattle.inode_tree.specs.Inodes.{BareInode, BareContent, directory, file, links_in, node_content, node_of}
-use Rattle.inode_tree.specs.Parts.{Parts, inode_at, child_of, follow}
+use Rattle.inode_tree.specs.Parts.{Parts, follow}
 use Rattle.inode_tree.specs.Promises.{numbers_of}
 use Rattle.inode_tree.specs.Stands.{Stands}
 use Rattle.inode_tree.specs.Views.{Held, Shown, Agrees, Agreeing}
 use Rattle.inode_tree.proofs.IndexLemmas.{index_from_stands}
-use Rattle.inode_tree.proofs.LinkLemmas.{key_same}
-use Rattle.inode_tree.proofs.MapLemmas.{name_cmp-IsAntisymmetric}
-use Rattle.inode_tree.proofs.TurnLemmas.{number_differs}
 use Rattle.path_walk.specs.declared.call.Call.{Call}
 use Rattle.path_walk.specs.declared.find.Find.{Find}
 use Rattle.path_walk.specs.declared.find.Found.{Found}
@@ -56,11 +46,12 @@ use Rattle.path_walk.specs.Answers.{stop_reply}
 use Rattle.path_walk.specs.Calls.{Answers}
 use Rattle.path_walk.specs.Children.{has_children}
 use Rattle.path_walk.specs.Finds.{last_read, read_to, IsFound, IsPlaced, IsFindFor}
-use Rattle.path_walk.specs.Parents.{IsParent, IsParentIn}
+use Rattle.path_walk.specs.Parents.{IsParent}
 use Rattle.path_walk.specs.Visits.{end_of, IsVisitFor, AreLookedAt, IsOnTheWay, NeedsChild}
 use Rattle.path_walk.proofs.AnswerLemmas.{outcome_reads, read_need, way_need}
 use Rattle.path_walk.proofs.FindLemmas.{child_needs}
 use Rattle.path_walk.proofs.QuestionLemmas.{unless_both}
+use Rattle.path_walk.proofs.BareLemmas.{shows_node, bare_is}
 use Rattle.op_create.specs.declared.nodes.NewNode.{NewNode}
 use Rattle.op_create.specs.declared.place.Place.{Place}
 use Rattle.op_create.specs.Creates.{IsCreate, making_of, asked, refusal_over, refusal_by, replaced_by, IsComing, IsPlace, LeadsTo, replaced_path}
@@ -162,63 +153,6 @@ lost_way reached depth e = absurd (false≢true (sym (ap is_lost e)))
 lost_way (missing d) depth e = (d, refl, ap lost_depth e)
 lost_way (blocked p) depth e = absurd (false≢true (sym (ap is_lost e)))
 lost_way (closed p r) depth e = absurd (false≢true (sym (ap is_lost e)))
-
--- ---- children
-
--- the children of a node are what its links lead to
-module _ (parts : Parts) (t : Tree) (stands : Stands parts t) (path : Path) (i : ℕ) (y : BareInode) (leads : follow parts 0 path ≡ Some i) (there : inode_at parts i ≡ Some y) where
-  index : IsIndex parts t (follow parts 0)
-  index = index_from_stands parts t stands
-
-  leads_on : (n : List ℕ) → child_of y n ≡ follow parts 0 (path ++ n ∷ [])
-  leads_on n =
-      let place = index.places path i leads in
-      ap (λ (z : BareInode). child_of z n) (same_Some y place.inode (sym there ∙ place.found)) ∙ place.links n
-
-  pub shows_node : at t path ≡ Some (node_of y)
-  shows_node =
-      let place = index.places path i leads in
-      place.shows ∙ ap (λ (z : BareInode). Some (node_of z)) (same_Some place.inode y (sym place.found ∙ there))
-
-  pub child_at_name : (n : List ℕ) (c : Option ℕ) → child_of y n ≡ c → follow parts 0 (path ++ n ∷ []) ≡ c
-  child_at_name n c e = sym (leads_on n) ∙ e
-
-  no_links : fin.len (links_in y.content) ≡ 0 → (n : List ℕ) → child_of y n ≡ None
-  no_links e n = ap (λ k. fin.get k n) (fin.empty_of_len (links_in y.content) e) ∙ fin.get-empty name_cmp n
-
-  -- no links, so nothing stands below
-  no_child : fin.len (links_in y.content) ≡ 0 → (q : Path) → Among q (children t path) → ⊥
-  no_child e q k =
-      let is = keys_among t (is_child path) q k in
-      let name = child_name path q is.0 in
-      false≢true (sym (ap is_some (index.nothing (path ++ name.0 ∷ []) (child_at_name name.0 None (no_links e name.0)))) ∙ ap (λ r. is_some (at t r)) (sym name.1) ∙ is.1)
-
-  -- a link leads to what stands below
-  some_child : (n : List ℕ) (c : ℕ) → child_of y n ≡ Some c → Among (path ++ n ∷ []) (children t path)
-  some_child n c e =
-      among_keys t (is_child path) (path ++ n ∷ []) (ap is_some (index.places (path ++ n ∷ []) c (child_at_name n (Some c) e)).shows) (name_child path n)
-
-  none_long : (ps : List Path) → ((q : Path) → Among q ps → ⊥) → (length ps == 0) ≡ true
-  none_long [] h = refl
-  none_long (q ∷ ps) h = absurd (h q (inl refl))
-
-  some_long : (q : Path) (ps : List Path) → Among q ps → (length ps == 0) ≡ false
-  some_long q [] h = absurd h
-  some_long q (p ∷ ps) h = number_differs (length (p ∷ ps)) 0 (λ e. let s : length (p ∷ ps) ≡ suc (length ps) = refl in omega arith)
-
-  pub bare_is : is_bare t path ≡ (fin.len (links_in y.content) == 0)
-  bare_is = by_entries (fin.entries (links_in y.content)) refl
-    where
-      by_entries : (es : List (List ℕ × ℕ)) → fin.entries (links_in y.content) ≡ es → is_bare t path ≡ (fin.len (links_in y.content) == 0)
-      by_entries [] e =
-          let none : fin.len (links_in y.content) ≡ 0 = fin.len-entries (links_in y.content) ∙ ap (λ (l : List (List ℕ × ℕ)). length l) e in
-          none_long (children t path) (no_child none) ∙ sym (ap (λ k. k == 0) none)
-      by_entries (x ∷ es) e =
-          let first : child_of y x.0 ≡ Some x.1 =
-          fin.get-entries (links_in y.content) x.0 ∙ ap (find name_cmp x.0) e
-          ∙ ap (λ b. cond b (Some x.1) (find name_cmp x.0 es)) (key_same name_cmp nat_list_cmp_total name_cmp-IsAntisymmetric x.0) in
-          some_long (path ++ x.0 ∷ []) (children t path) (some_child x.0 x.1 first)
-          ∙ sym (number_differs (fin.len (links_in y.content)) 0 (λ none. let l : fin.len (links_in y.content) ≡ length (x ∷ es) = fin.len-entries (links_in y.content) ∙ ap (λ (l : List (List ℕ × ℕ)). length l) e in let s : length (x ∷ es) ≡ suc (length es) = refl in omega arith))
 
 -- where nothing stands no id is reached
 nowhere : (parts : Parts) (t : Tree) → Stands parts t → (q : Path) → at t q ≡ None → follow parts 0 q ≡ None

@@ -1,5 +1,5 @@
 -- What a request to make a file or a directory comes to, once the directory was looked at in which a node is to be made.
-use Rattle.std.specs.Prelude.{◌≡◌, ℕ, ◌≤◌, Bool, not, List, [], ◌∷◌, ◌++◌, length, Option, Some, None, option_map, IsSome}
+use Rattle.std.specs.Prelude.{◌≡◌, not, List, [], ◌∷◌, ◌++◌, Option, Some, None, option_map, IsSome}
 use Rattle.namespace_model.specs.declared.code.Code.TheVariants.{ResourceTypeMismatch, DirectoryNotEmpty}
 use Rattle.namespace_model.specs.declared.op.Kind.{Kind}
 use Rattle.namespace_model.specs.declared.op.Op.{Op}

@@ -13,10 +13,6 @@ use Rattle.inode_tree.specs.Inodes.{BareInode, node_content, node_of}
 use Rattle.path_walk.proofs.QuestionLemmas.{unless_both, unless_rest}
 use Rattle.op_data.specs.Tasks.{IsFileOf, of_flush}
 
-pub is_none : (o : Option Reply) → ((reply : Reply) → o ≡ Some reply → ⊥) → o ≡ None
-is_none None un = refl
-is_none (Some reply) un = absurd (un reply refl)
-
 second_none : (a b : Option Reply) → or_else a b ≡ None → b ≡ None
 second_none None b e = e
 second_none (Some reply) b e = absurd (cc)

@@ -13,9 +13,10 @@ use Rattle.path_walk.specs.declared.call.Call.{Call}
 use Rattle.path_walk.specs.declared.edits.Verdict.{Verdict}
 use Rattle.path_walk.specs.Edits.{IsVerdict}
 use Rattle.path_walk.specs.Settles.{LooksAs, IsVerdictOf}
+use Rattle.path_walk.specs.Calls.{entry_of}
 use Rattle.op_data.specs.declared.task.Task.{Task}
 use Rattle.op_data.specs.declared.task.Task.TheVariants as task
-use Rattle.op_data.specs.Tasks.{op_of, of_node, entry_of, Asks, IsVerdictOfNode}
+use Rattle.op_data.specs.Tasks.{op_of, of_node, Asks, IsVerdictOfNode}
 
 -- ---- the step
 

@@ -21,6 +21,7 @@ use Rattle.inode_tree.specs.Inodes.{BareInode, file, node_of}
 use Rattle.path_walk.specs.declared.call.Call.{Call}
 use Rattle.path_walk.specs.declared.edits.Verdict.{Verdict}
 use Rattle.path_walk.specs.Edits.{IsVerdict}
+use Rattle.path_walk.specs.Calls.{entry_of}
 use Rattle.op_data.specs.declared.task.Appending.{Appending}
 use Rattle.op_data.specs.declared.task.Task.{Task}
 use Rattle.op_data.specs.declared.task.Task.TheVariants as task
@@ -83,10 +84,6 @@ of_node e p task x =
     (of_file e p task x))
 
 -- ---- calls
-
--- An entry of a call. On which connection it came doesn't matter to what comes of a task.
-abbrev pub entry_of : Call → Entry
-entry_of call = record { conn = 0; index = 0; moment = call.moment; request = call.request.now }
 
 -- the call asks this of the file of its path
 abbrev pub Asks : Call → Task → Type 0

@@ -8,8 +8,9 @@ ghost use Rattle.namespace_model.specs.Contents.{data_of, refused_staging};
 ghost use Rattle.namespace_model.specs.Nodes.{is_directory};
 ghost use Rattle.namespace_model.specs.Refusals.{or_else};
 ghost use Rattle.op_data.specs.declared.task.Task.TheVariants as task;
-ghost use Rattle.op_data.specs.Tasks.{IsFileOf, IsVerdictOfFile, appending, entry_of};
+ghost use Rattle.op_data.specs.Tasks.{IsFileOf, IsVerdictOfFile, appending};
 ghost use Rattle.path_walk.specs.Edits.{IsVerdict};
+ghost use Rattle.path_walk.specs.Calls.{entry_of};
 
 use super::file::{flush_refused, staging_refused};
 use super::task::Appending;

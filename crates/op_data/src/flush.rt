@@ -6,8 +6,9 @@ ghost use Rattle.namespace_model.specs.Contents.{data_of, refused_flush};
 ghost use Rattle.namespace_model.specs.Flush.{flushed_to};
 ghost use Rattle.namespace_model.specs.Refusals.{is_unmet, lease_refuses, or_else};
 ghost use Rattle.op_data.specs.declared.task.Task.TheVariants as task;
-ghost use Rattle.op_data.specs.Tasks.{IsFileOf, IsVerdictOfFile, entry_of};
+ghost use Rattle.op_data.specs.Tasks.{IsFileOf, IsVerdictOfFile};
 ghost use Rattle.path_walk.specs.Edits.{IsVerdict};
+ghost use Rattle.path_walk.specs.Calls.{entry_of};
 
 use super::file::flush_refused;
 use file_data::FileData;

@@ -4,7 +4,8 @@ ghost use Rattle.namespace_model.specs.Outcomes.{answered};
 ghost use Rattle.namespace_model.specs.ReadFile.{bytes_read, content_fields, last_byte, part_read, whole_read};
 ghost use Rattle.namespace_model.specs.Replies.{with_body};
 ghost use Rattle.namespace_model.specs.Sound.{IsRange};
-ghost use Rattle.op_data.specs.Tasks.{IsFileOf, entry_of, of_read};
+ghost use Rattle.path_walk.specs.Calls.{entry_of};
+ghost use Rattle.op_data.specs.Tasks.{IsFileOf, of_read};
 
 use file_data::{FileData, Piece};
 use head_text::Range;

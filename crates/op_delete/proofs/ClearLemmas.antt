@@ -1,22 +1,19 @@
 -- What a recursive delete asks, child by child and node by node.
-use Rattle.std.proofs.Common.{◌≡◌, inl, inr, ℕ, suc, ◌+◌, ◌%◌, ◌<◌, length, take, arith, Bool, true, false, not, ◌&&◌, cond, List, [], ◌∷◌, ◌++◌, map, Option, Some, None, unwrap_or, is_some, refl, sym, ap, subst, ◌∙◌, append_assoc, append-nil}
+use Rattle.std.proofs.Common.{◌≡◌, ℕ, ◌<◌, true, false, cond, List, [], ◌∷◌, ◌++◌, Option, Some, None, unwrap_or, is_some, refl, sym, ap, subst, ◌∙◌, append_assoc}
 use Rattle.std.proofs.lemmas.Bool.{false≢true}
 use Rattle.std.proofs.lemmas.Option.{same_Some}
 use Rattle.std.proofs.Math.Nat.{mod-lt}
 use Rattle.std.proofs.Math.Dec.{lit<}
-use Rattle.std.proofs.Math.Seq.{take-suc}
-use Rattle.std.specs.Prelude.{slice_index_or}
 use Rattle.lock_core.specs.declared.object.LockMode.TheVariants.{Shared}
 use Rattle.namespace_model.specs.declared.caller.Caller.{Caller}
 use Rattle.namespace_model.specs.declared.reply.Reply.{Reply}
 use Rattle.namespace_model.specs.declared.denied.Rule.TheVariants as rule
 use Rattle.namespace_model.specs.Access.{sticky_lets}
 use Rattle.namespace_model.specs.Delete.{not_clearable}
-use Rattle.namespace_model.specs.Locality.{Among}
-use Rattle.namespace_model.specs.Nodes.{Node, blank, is_directory}
+use Rattle.namespace_model.specs.Nodes.{Node, blank}
 use Rattle.namespace_model.specs.Pages.{above}
 use Rattle.namespace_model.specs.Refusals.{lacks, is_guarded, deny_unless, or_else, first_refusal}
-use Rattle.namespace_model.specs.Trees.{Path, Tree, at, node_at, is_below, is_bare, children, subtree}
+use Rattle.namespace_model.specs.Trees.{Path, Tree, at, node_at, is_below, children, subtree}
 use Rattle.namespace_model.proofs.Lookups.{among_keys, keys_among}
 use Rattle.namespace_model.proofs.Prefixes.{below_names}
 use Rattle.inode_tree.specs.declared.id.NodeId.{NodeId}
@@ -24,7 +21,7 @@ use Rattle.inode_tree.specs.declared.need.Need.{Need}
 use Rattle.inode_tree.specs.FirstChild.{IsFirstChild, IsChildAbove}
 use Rattle.inode_tree.specs.Footprints.{ids_of}
 use Rattle.inode_tree.specs.Inodes.{BareInode, node_of}
-use Rattle.inode_tree.specs.Parts.{Parts, inode_at, child_of, follow}
+use Rattle.inode_tree.specs.Parts.{Parts}
 use Rattle.inode_tree.specs.Promises.{numbers_of}
 use Rattle.inode_tree.specs.Stands.{Stands}
 use Rattle.inode_tree.specs.Views.{Held, Shown, Agrees, Grows, IsKnown, covers, shown_at}
@@ -37,18 +34,21 @@ use Rattle.path_walk.proofs.ReadLemmas.{it_is_one}
 use Rattle.path_walk.proofs.TrailLemmas.{agreed, agrees_before, looked_grows, looked_more, numbers-append}
 use Rattle.path_order.specs.declared.cursor.Cursor.{Cursor}
 use Rattle.path_order.specs.declared.cursor.Seen.{Seen}
-use Rattle.path_order.specs.Cursors.{NoneBehind, place, names_of, end_of, IsAt, IsCursor, IsNextSeen, NeedsNext}
+use Rattle.path_order.specs.Cursors.{names_of, end_of, IsAt, IsCursor, IsNextSeen, NeedsNext}
 use Rattle.path_order.specs.PagesBelow.{below, last_of}
 use Rattle.path_order.specs.Starts.{IsAtFor}
 use Rattle.path_order.specs.Subtrees.{IsTop, NeedsSubtree}
 use Rattle.path_order.proofs.CursorLemmas.{end_is, is_there, names_lead}
-use Rattle.path_order.proofs.PageLemmas.{is_below_names, below_of, next_is, nothing_is}
-use Rattle.path_order.proofs.SubtreeLists.{subtree_is}
+use Rattle.path_order.proofs.PageLemmas.{is_below_names, next_is, last_more}
 use Rattle.path_order.proofs.WholeLemmas.{all_below}
+use Rattle.path_order.specs.Needs.{NeedsNode}
+use Rattle.path_order.specs.Children.{left_at}
+use Rattle.path_order.proofs.ChildOrder.{all_left, one_left, none_left}
+use Rattle.path_order.proofs.SubtreeWalks as walks
+use Rattle.path_order.proofs.SubtreeWalks.{whole_came}
 use Rattle.op_delete.specs.declared.clear.Cleared.{Cleared}
 use Rattle.path_walk.specs.Children.{has_children}
-use Rattle.op_delete.specs.Deletes.{AsksNode, AsksChildren, NeedsNode, IsCleared}
-use Rattle.op_delete.proofs.ChildOrder.{left_at, all_left, one_left, none_left}
+use Rattle.op_delete.specs.Deletes.{AsksNode, AsksChildren, IsCleared}
 use Rattle.op_delete.proofs.SubtreeLemmas.{children_there, one_id}
 
 -- a path and its inode at a later view
@@ -62,11 +62,6 @@ node_there parts t stands p id x is =
   where
     same_inode : (x y : BareInode) → ◌≡◌ {A = Option BareInode} (Some x) (Some y) → x ≡ y
     same_inode x y e = same_Some x y e
-
--- an answer that is no refusal
-pub is_none : {A : Type 0} (o : Option A) → ((x : A) → o ≡ Some x → ⊥) → o ≡ None
-is_none None h = refl
-is_none (Some x) h = absurd (h x refl)
 
 -- ---- what a question says of more paths
 
@@ -225,10 +220,6 @@ begins_so held old new caller p top c ids refused grows is looked these asks fro
   looked = subst (λ (l : List NodeId). AreLookedAt held new l) (sym these) (looked_more held new [] top.id (λ id h. absurd (false≢true h)) looked);
 }
 
-last_more : (token : Path) (done : List Path) (q : Path) → last_of token (done ++ q ∷ []) ≡ q
-last_more token [] q = refl
-last_more token (p ∷ done) q = last_more p done q
-
 -- the walk came to a node
 module _ (held : Held) (old new : Shown) (caller : Caller) (p : Path) (before after : Cursor) (ids : List NodeId) (refused : Option Reply) (grows : Grows old new)
     (is : IsClearing held old caller p before ids refused) where
@@ -246,22 +237,10 @@ module _ (held : Held) (old new : Shown) (caller : Caller) (p : Path) (before af
       whole : (parts : Parts) (t : Tree) → Stands parts t → Agrees new parts → subtree t p ≡ p ∷ is.done
       whole parts t stands agrees =
           let so_far = is.so_far parts t stands (agrees_before old new parts grows agrees) in
-          let none = step p (last_of p is.done) is.goes_on parts t stands agrees in
-          let all : below t p ≡ is.done = so_far.left ∙ ap (λ l. is.done ++ l) (nothing_is t p (last_of p is.done) none.0) ∙ append-nil is.done in
-          subtree_is t p so_far.there ∙ ap (λ (l : List Path). p ∷ l) all
+          whole_came t p is.done so_far.there so_far.left (step p (last_of p is.done) is.goes_on parts t stands agrees).0
 
   pub next_lacks : (n : Need) → ((r k : Path) → IsCursor old r k before → NeedsNext held old r k n) → NeedsSubtree held new p n
-  next_lacks n step =
-      let needs = step p (last_of p is.done) is.goes_on in
-      record {
-        within = needs.within;
-        asks = needs.asks;
-        lacks = needs.lacks;
-        needed = λ parts t stands agrees.
-            let one = needs.needed parts t stands (agrees_before old new parts grows agrees) in
-            let next = one.1.1.0 in
-            (one.0, (one.1.0, (among_keys t (is_below p) one.0 next.next.there (below_of p one.0 next.below), (next.leads, one.1.1.1))));
-      }
+  next_lacks = walks.next_lacks held old new p (last_of p is.done) before grows is.goes_on
 
   module _ (seen : Seen) (step : (r k : Path) → IsCursor old r k before → IsNextSeen held new r k after (Some seen)) where
     abbrev seen_next : IsNextSeen held new p (last_of p is.done) after (Some seen)
@@ -327,19 +306,3 @@ none_looked held shown id h = absurd (false≢true h)
 pub top_later : {O : Type 0} {held later : Held} {over over_later : O} {shown shown_later : Shown} → GoesOn held later over over_later shown shown_later → (id : NodeId) → IsHeldAndShown held shown id.0
     → IsHeldAndShown later shown_later id.0
 top_later {held} {shown} on id is = looked_later on (id ∷ []) (looked_more held shown [] id (none_looked held shown) is) id.0 (it_is_one id)
-
--- ---- paths
-
-pub not_empty : (p names : Path) → (p ≡ [] → ⊥) → p ++ names ≡ [] → ⊥
-not_empty [] names some e = some refl
-not_empty (n ∷ p) names some e = absurd (false≢true (sym (ap is_any e)))
-  where
-    is_any : Path → Bool
-    is_any [] = false
-    is_any (n ∷ p) = true
-
-pub names_next : (path names : Path) (i : ℕ) (name : List ℕ) (whole longer : Path) → i < length names → name ≡ slice_index_or names i name → whole ≡ path ++ take i names → longer ≡ whole ++ name ∷ []
-    → longer ≡ path ++ take (i + 1) names
-names_next path names i name whole longer within item so_far is =
-    is ∙ ap (λ l. l ++ name ∷ []) so_far ∙ append_assoc path (take i names) (name ∷ [])
-    ∙ ap (λ l. path ++ l) (ap (λ x. take i names ++ x ∷ []) item ∙ sym (take-suc names i name within) ∙ ap (λ k. take k names) (let h : suc i ≡ i + 1 = omega arith in h))

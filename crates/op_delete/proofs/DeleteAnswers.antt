@@ -1,5 +1,5 @@
 -- What the answers of a delete owe: on the way, at the parent, at the node, and once it is taken away.
-use Rattle.std.proofs.Common.{◌≡◌, ◌≢◌, ℕ, ◌≤◌, Bool, true, false, not, ◌&&◌, ◌||◌, List, [], ◌∷◌, ◌++◌, map, length, Option, Some, None, unwrap_or, Result, Ok, Err, is_some, IsSome, refl, sym, ap, subst, ◌∙◌, append-nil, arith}
+use Rattle.std.proofs.Common.{◌≡◌, ◌≢◌, ℕ, ◌≤◌, Bool, true, false, not, ◌&&◌, ◌||◌, List, [], ◌∷◌, ◌++◌, length, Option, Some, None, unwrap_or, Result, Ok, Err, is_some, refl, sym, ap, subst, ◌∙◌, append-nil, arith}
 use Rattle.std.proofs.lemmas.Bool.{false≢true}
 use Rattle.std.proofs.lemmas.Option.{same_Some}
 use Rattle.head_text.specs.declared.conditions.Unmet.{Unmet}
@@ -7,7 +7,6 @@ use Rattle.head_text.specs.ConditionsOf.{conditions_of}
 use Rattle.lease_state.specs.LeaseTable.{lease_may_write}
 use Rattle.namespace_model.specs.declared.caller.Caller.{Caller}
 use Rattle.namespace_model.specs.declared.code.Code.TheVariants.{PathNotFound, DirectoryNotEmpty}
-use Rattle.namespace_model.specs.declared.op.Op.{Op}
 use Rattle.namespace_model.specs.declared.op.Op.TheVariants as op
 use Rattle.namespace_model.specs.declared.reply.Reply.{Reply}
 use Rattle.namespace_model.specs.declared.request.Entry.{Entry}
@@ -15,13 +14,13 @@ use Rattle.namespace_model.specs.declared.request.Request.{Request}
 use Rattle.namespace_model.specs.Delete.{delete, delete_node, cleared, gone, not_clearable}
 use Rattle.namespace_model.specs.Locality.{Among}
 use Rattle.namespace_model.specs.Nodes.{Node, is_directory}
-use Rattle.namespace_model.specs.Outcomes.{Outcome, answered, reading, refused, unless}
-use Rattle.namespace_model.specs.Refusals.{caller_of, nobody, lacks, is_guarded, is_unmet, unmet_for_change, stamps_of, lease_refuses, refused_by_lease, refuse_if, or_else, first_refusal}
+use Rattle.namespace_model.specs.Outcomes.{Outcome, reading, refused, unless}
+use Rattle.namespace_model.specs.Refusals.{caller_of, nobody, lacks, is_guarded, unmet_for_change, stamps_of, refused_by_lease, refuse_if, or_else, first_refusal}
 use Rattle.namespace_model.specs.Replies.{refusal, success}
-use Rattle.namespace_model.specs.Sound.{IsSound, IsOperation}
+use Rattle.namespace_model.specs.Sound.{IsOperation}
 use Rattle.namespace_model.specs.Step.{acts}
 use Rattle.namespace_model.specs.Trees.{Path, Tree, at, parent, is_below, is_bare, subtree}
-use Rattle.namespace_model.specs.Ways.{reached, way_of, read_on}
+use Rattle.namespace_model.specs.Ways.{read_on}
 use Rattle.namespace_model.proofs.Alikeness.{among_right}
 use Rattle.namespace_model.proofs.Lookups.{among_keys, keys_among}
 use Rattle.namespace_model.proofs.Prefixes.{both}
@@ -32,12 +31,12 @@ use Rattle.inode_tree.specs.declared.draft.EvalStop.TheVariants as stop
 use Rattle.inode_tree.specs.declared.id.NodeId.{NodeId}
 use Rattle.inode_tree.specs.declared.need.Need.{Need}
 use Rattle.inode_tree.specs.After.{known}
-use Rattle.inode_tree.specs.Footprints.{ids_of, lies_in}
+use Rattle.inode_tree.specs.Footprints.{ids_of}
 use Rattle.inode_tree.specs.Inodes.{BareInode, node_of}
 use Rattle.inode_tree.specs.Parts.{Parts, inode_at, follow, id_at}
 use Rattle.inode_tree.specs.Promises.{numbers_of, is_one_of}
 use Rattle.inode_tree.specs.Stands.{Stands}
-use Rattle.inode_tree.specs.Views.{Held, Shown, Agrees, Grows}
+use Rattle.inode_tree.specs.Views.{Held, Shown, Agrees}
 use Rattle.inode_tree.proofs.FrameLemmas.{short_id}
 use Rattle.inode_tree.proofs.IndexLemmas.{index_from_stands, reached_short}
 use Rattle.inode_tree.proofs.PairLemmas.{known_has}
@@ -48,9 +47,8 @@ use Rattle.path_walk.specs.declared.parent.Parent.{Parent}
 use Rattle.path_walk.specs.declared.removals.Removal.{Removal}
 use Rattle.path_walk.specs.Answers.{IsAnswered}
 use Rattle.path_walk.specs.Calls.{IsCall, Answers, GoesOn}
-use Rattle.path_walk.specs.Finds.{read_to, IsFound, IsFindFor, IsNeedOfFind, IsLook, IsLookAs}
+use Rattle.path_walk.specs.Finds.{read_to, IsFound, IsNeedOfFind, IsLook, IsLookAs}
 use Rattle.path_walk.specs.Parents.{IsParent}
-use Rattle.path_walk.specs.Removals.{taken_out, IsRemovalIn}
 use Rattle.path_walk.specs.Settles.{IsRemovalOf}
 use Rattle.path_walk.specs.Visits.{AreLookedAt, IsHeldAndShown}
 use Rattle.path_walk.proofs.AnswerLemmas.{answer_is_draft, read_need, outcome_reads}
@@ -65,7 +63,7 @@ use Rattle.path_order.specs.Subtrees.{IsTop, NeedsSubtree}
 use Rattle.op_delete.specs.declared.clear.Cleared.{Cleared}
 use Rattle.op_delete.specs.declared.eval.Target.{Target}
 use Rattle.path_walk.specs.Children.{has_children}
-use Rattle.op_delete.specs.Deletes.{refusal_of, IsTargetIn, IsTarget, IsCleared}
+use Rattle.op_delete.specs.Deletes.{refusal_of, IsTarget, IsCleared}
 use Rattle.op_delete.proofs.ClearLemmas.{top_later}
 use Rattle.op_delete.proofs.DeleteSteps.{behind_way, way_is, denied_is, missing_is, found_is, node_is}
 use Rattle.op_delete.proofs.SubtreeLemmas.{children_there, alone_ids}

@@ -8,7 +8,7 @@ use Rattle.namespace_model.specs.Nodes.{is_directory}
 use Rattle.namespace_model.specs.Trees.{Path, Tree, at, is_child, is_bare, children, subtree}
 use Rattle.namespace_model.proofs.Lookups.{among_keys, keys_among}
 use Rattle.namespace_model.proofs.Prefixes.{child_name, name_child}
-use Rattle.inode_tree.specs.After.{with_id, known}
+use Rattle.inode_tree.specs.After.{with_id}
 use Rattle.inode_tree.specs.ChildLists.{name_cmp}
 use Rattle.inode_tree.specs.Footprints.{ids_of}
 use Rattle.inode_tree.specs.Inodes.{BareContent, directory, file, BareInode, node_of, links_in}

@@ -1,7 +1,6 @@
 -- What a delete asks of the node of its path, and what a look through all that stands below it gives.
-use Rattle.std.specs.Prelude.{◌≡◌, ℕ, ◌%◌, Bool, true, false, not, ◌&&◌, [], ◌∷◌, ◌++◌, Option, Some, None}
+use Rattle.std.specs.Prelude.{◌≡◌, Bool, not, ◌&&◌, [], ◌∷◌, ◌++◌, Option, Some, None}
 use Rattle.head_text.specs.ConditionsOf.{conditions_of}
-use Rattle.lock_core.specs.declared.object.LockMode.TheVariants.{Shared}
 use Rattle.lease_state.specs.LeaseTable.{lease_may_write}
 use Rattle.namespace_model.specs.declared.caller.Caller.{Caller}
 use Rattle.namespace_model.specs.declared.code.Code.TheVariants.{DirectoryNotEmpty}
@@ -13,13 +12,12 @@ use Rattle.namespace_model.specs.Delete.{not_clearable}
 use Rattle.namespace_model.specs.Refusals.{lacks, is_guarded, unmet_for_change, stamps_of, refused_by_lease, refuse_if, or_else, first_refusal}
 use Rattle.namespace_model.specs.Trees.{Path, Tree, parent, children, subtree}
 use Rattle.namespace_model.specs.Ways.{reached, way_of}
-use Rattle.inode_tree.specs.declared.need.Need.{Need}
 use Rattle.inode_tree.specs.Footprints.{ids_of}
 use Rattle.inode_tree.specs.Inodes.{BareInode, node_of}
 use Rattle.inode_tree.specs.Parts.{Parts, inode_at, follow}
 use Rattle.inode_tree.specs.Promises.{numbers_of}
 use Rattle.inode_tree.specs.Stands.{Stands}
-use Rattle.inode_tree.specs.Views.{Held, Shown, Agrees, covers}
+use Rattle.inode_tree.specs.Views.{Held, Shown, Agrees}
 use Rattle.path_walk.specs.declared.call.Call.{Call}
 use Rattle.path_walk.specs.Children.{has_children}
 use Rattle.path_walk.specs.Finds.{read_to}
@@ -75,9 +73,3 @@ pub record IsCleared (held : Held) (shown : Shown) (caller : Caller) (p : Path) 
   pub ids : (parts : Parts) (t : Tree) → Stands parts t → Agrees shown parts → numbers_of c.taken.items ≡ ids_of parts (subtree t p)
   pub says : (parts : Parts) (t : Tree) → Stands parts t → Agrees shown parts → c.refused ≡ first_refusal (not_clearable t caller) t (subtree t p)
   pub looked : AreLookedAt held shown c.taken.items
-
--- a node lies in a stripe that isn't held
-pub record NeedsNode (held : Held) (id : ℕ) (n : Need) : Type 0 where
-  pub stripe : n.stripe ≡ id % 64
-  pub asks : n.mode ≡ Shared
-  pub lacks : covers (held (id % 64)) Shared ≡ false

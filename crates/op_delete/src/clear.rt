@@ -13,8 +13,8 @@ ghost use Rattle.path_walk.specs.Visits.{IsHeldAndShown};
 use super::directory::ask_node;
 use inode_tree::{EvalStop, NodeId, NodeRef, View};
 use namespace_model::{Caller, Reply};
-use path_order::{Cursor, Seen};
-use path_text::{Name, Path};
+use path_order::{Cursor, Seen, path_below};
+use path_text::Path;
 use std::alloc::{AllocError, Global};
 
 // A subtree that was looked through.
@@ -93,19 +93,6 @@ fn ask_seen<V: View>(
         → NeedsSubtree (V.held view.new) (V.shown view.new) (path.now ++ names_of cursor.now) n }
 {
     let names = cursor.names(alloc)?;
-    let at = path_of(alloc, path, names.as_slice())?;
+    let at = path_below(alloc, path, names.as_slice())?;
     ask_node(alloc, view, caller, &at, node)
-}
-
-// The path of these names below a path.
-fn path_of(alloc: Global, path: &Path, names: &[Name]) -> Result<Path, AllocError>
-    requires below { path.now ≢ [] }
-    ensures { IfOk result (λ whole. whole ≡ path.now ++ names.now) }
-{
-    let mut whole = path.copy(alloc)?;
-    for name in names {
-        let longer = whole.child(alloc, name)?;
-        whole = longer;
-    }
-    Ok(whole)
 }

@@ -5,9 +5,10 @@ ghost use Rattle.inode_tree.specs.Views.{IsKnown, shown_at};
 ghost use Rattle.inode_tree.specs.declared.draft.EvalStop.TheVariants as stop;
 ghost use Rattle.inode_tree.specs.declared.need.Need.{Need};
 ghost use Rattle.namespace_model.specs.Refusals.{is_guarded};
-ghost use Rattle.op_delete.specs.Deletes.{AsksNode, AsksChildren, NeedsNode};
+ghost use Rattle.op_delete.specs.Deletes.{AsksNode, AsksChildren};
 ghost use Rattle.path_order.specs.Starts.{IsAtFor};
 ghost use Rattle.path_order.specs.Subtrees.{NeedsSubtree};
+ghost use Rattle.path_order.specs.Needs.{NeedsNode};
 ghost use Rattle.path_walk.specs.Calls.{GoesOn};
 
 use acl_text::Perm;

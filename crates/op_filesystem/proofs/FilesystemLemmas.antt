@@ -8,7 +8,6 @@ use Rattle.std.specs.Cmp.{unsigned_Decides}
 use Rattle.std.specs.FinMap as fin
 use Rattle.std.specs.FinMap.{find}
 use Rattle.path_text.specs.Paths.{path_cmp, is_prefix}
-use Rattle.namespace_model.specs.declared.caller.Caller.{Caller}
 use Rattle.namespace_model.specs.declared.code.Code.TheVariants.{FilesystemAlreadyExists, FilesystemNotFound}
 use Rattle.namespace_model.specs.declared.op.Op.TheVariants as op
 use Rattle.namespace_model.specs.declared.reply.Reply.{Reply}
@@ -16,14 +15,14 @@ use Rattle.namespace_model.specs.declared.request.Entry.{Entry}
 use Rattle.namespace_model.specs.declared.request.Request.{Request}
 use Rattle.namespace_model.specs.CreateFilesystem.{create_filesystem, filesystem_made, new_root}
 use Rattle.namespace_model.specs.Effects.{Put, put_by, stamp}
-use Rattle.namespace_model.specs.Outcomes.{Outcome, answered, refused, reading, unless, without_repeats}
+use Rattle.namespace_model.specs.Outcomes.{Outcome, reading, unless, without_repeats}
 use Rattle.namespace_model.specs.Refusals.{caller_of, nobody, is_no_superuser, refuse_if}
 use Rattle.namespace_model.specs.Replies.{refusal, success, stamp_fields}
 use Rattle.namespace_model.specs.Sound.{IsOperation}
-use Rattle.namespace_model.specs.Step.{acts, closing, outcome, root_of, with_close}
+use Rattle.namespace_model.specs.Step.{acts, closing, outcome, with_close}
 use Rattle.namespace_model.specs.Trees.{Path, Tree, at as at_path, parent}
 use Rattle.namespace_model.specs.Walks.{missing_below, ended}
-use Rattle.namespace_model.specs.Ways.{reached, way_of, read_on}
+use Rattle.namespace_model.specs.Ways.{read_on}
 use Rattle.namespace_model.proofs.Lookups.{same_path}
 use Rattle.inode_tree.specs.declared.change.Change.{Change}
 use Rattle.inode_tree.specs.declared.change.Change.TheVariants as change
@@ -55,6 +54,7 @@ use Rattle.path_walk.proofs.AnswerLemmas.{answer_is_draft}
 use Rattle.path_walk.proofs.CallAnswers.{WalksAs}
 use Rattle.path_walk.proofs.FindLemmas.{leads_to}
 use Rattle.path_walk.proofs.HoldLemmas.{written_need}
+use Rattle.path_walk.proofs.Truths.{both_same, swapped}
 use Rattle.op_filesystem.specs.Filesystems.{root_inode, IsMade}
 use Rattle.op_filesystem.proofs.RootLemmas.{IsRoot, is_root}
 use Rattle.op_filesystem.proofs.SuperuserLemmas.{AsksFirst}
@@ -64,19 +64,6 @@ Given = Option (List (List ℕ × List ℕ))
 
 abbrev account_id : NodeId
 account_id = record { 0 = 0 }
-
--- ---- truth values
-
-both_same : {A : Type 0} (b : Bool) (x : A) → cond b x x ≡ x
-both_same true x = refl
-both_same false x = refl
-
--- two tests of which one alone may hold can be asked in either order
-swapped : {A : Type 0} (a b : Bool) (f : A → A) (v x : A) → (a ≡ true → b ≡ true → ⊥) → cond a (f (cond b v x)) (cond b v x) ≡ cond b v (cond a (f x) x)
-swapped true true f v x apart = absurd (apart refl refl)
-swapped true false f v x apart = refl
-swapped false true f v x apart = refl
-swapped false false f v x apart = refl
 
 -- ---- a child
 

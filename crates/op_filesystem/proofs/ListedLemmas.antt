@@ -1,5 +1,5 @@
 -- A page of filesystems, root by root.
-use Rattle.std.proofs.Common.{◌≡◌, ◌⊎◌, inl, inr, ℕ, zero, suc, ◌+◌, ◌%◌, ◌<◌, ◌≤◌, Bool, true, false, ◌&&◌, List, [], ◌∷◌, ◌++◌, map, length, take, is_some, Option, Some, None, option_map, option_and_then, unwrap_or, refl, sym, ap, subst, ◌∙◌, append_assoc, append-nil, length-append, arith}
+use Rattle.std.proofs.Common.{◌≡◌, ◌⊎◌, inl, inr, ℕ, ◌+◌, ◌%◌, ◌<◌, ◌≤◌, true, List, [], ◌∷◌, ◌++◌, map, length, take, is_some, Option, Some, None, option_map, option_and_then, unwrap_or, refl, sym, ap, subst, ◌∙◌, append_assoc, append-nil, length-append, arith}
 use Rattle.std.proofs.Math.Logic.{∥∥₁_elim}
 use mathlib.Core.HLevel.{⊥_prop}
 use Rattle.std.proofs.lemmas.Bool.{cases_Bool, false≢true}
@@ -27,25 +27,24 @@ use Rattle.inode_tree.specs.After.{with_id}
 use Rattle.inode_tree.specs.Changes.{Part}
 use Rattle.inode_tree.specs.Footprints.{ids_of}
 use Rattle.inode_tree.specs.Inodes.{BareInode, node_of}
-use Rattle.inode_tree.specs.Parts.{Parts, inode_at, child_of, follow, id_at}
+use Rattle.inode_tree.specs.Parts.{Parts, follow, id_at}
 use Rattle.inode_tree.specs.Promises.{numbers_of}
 use Rattle.inode_tree.specs.Stands.{Stands}
 use Rattle.inode_tree.specs.Views.{Held, Shown, Agreeing, Agrees, Grows, IsKnown, covers, shown_at}
 use Rattle.inode_tree.proofs.FrameLemmas.{short_id}
 use Rattle.inode_tree.proofs.IndexLemmas.{index_from_stands, reached_short}
-use Rattle.path_walk.specs.Calls.{GoesOn}
 use Rattle.path_walk.specs.Visits.{AreLookedAt, IsHeldAndShown}
-use Rattle.path_walk.proofs.CallLemmas.{looked_later}
 use Rattle.path_walk.proofs.FindLemmas.{ids_of_append}
 use Rattle.path_walk.proofs.TrailLemmas.{agreed, agrees_before, looked_more, numbers-append}
 use Rattle.path_order.specs.Cursors.{IsAt}
 use Rattle.path_order.specs.PagesBelow.{last_of}
 use Rattle.path_order.specs.Starts.{IsAtFor}
 use Rattle.path_order.proofs.CursorLemmas.{names_lead}
-use Rattle.path_order.proofs.PageLemmas.{last_page, more_page}
+use Rattle.path_order.proofs.PageLemmas.{last_page, more_page, last_more, in_front}
+use Rattle.path_order.specs.Needs.{NeedsNode}
 use Rattle.body_text.specs.Told.{IsStampOf}
 use Rattle.op_filesystem.specs.declared.page.Listed.{Listed}
-use Rattle.op_filesystem.specs.Listed.{root_of, NamesFilesystem, IsFirstNamed, IsNextNamed, IsTold, NeedsNode, IsListedIn, IsListed, NeedsListed}
+use Rattle.op_filesystem.specs.Listed.{root_of, NamesFilesystem, IsFirstNamed, IsNextNamed, IsTold, IsListed, NeedsListed}
 use Rattle.op_filesystem.proofs.NamedLemmas.{reached_at, left_at, all_left, one_left, none_left}
 
 -- ---- what was shown
@@ -97,15 +96,6 @@ pub told_is : (n : List ℕ) (x : BareInode) (number moment : ℕ) (v : Value) �
 told_is n x number moment v same at timely tells = tells (node_of x) (record { number = same; moment = at; timely = timely })
 
 -- ---- lists
-
-take_among : (n : ℕ) (done : List Path) (q : Path) (rest : List Path) → length done < n → Among q (take n (done ++ q ∷ rest))
-take_among zero done q rest h = absurd (omega arith)
-take_among (suc n) [] q rest h = inl refl
-take_among (suc n) (p ∷ done) q rest h = inr (take_among n done q rest (omega arith))
-
-last_more : (token : Path) (done : List Path) (q : Path) → last_of token (done ++ q ∷ []) ≡ q
-last_more token [] q = refl
-last_more token (p ∷ done) q = last_more p done q
 
 abbrev behind : Items → Data → Items
 behind no_items d = item d no_items
@@ -194,7 +184,7 @@ module _ (shown : Shown) (x : BareInode) (account : shown_at shown 0 ≡ Some x)
             c.0,
             (
               subst (λ l. Among (m ∷ []) (take max l)) (sym (left_is parts t stands agrees))
-                  (take_among max is.done (m ∷ []) (left_at t prefix (Some m)) (let e = is.long in let h : length is.done < max = omega arith in h)),
+                  (in_front max is.done (m ∷ []) (left_at t prefix (Some m)) (let e = is.long in let h : length is.done < max = omega arith in h)),
               (leads parts t stands (agrees_before shown later parts grows agrees), needs.stripe),
             ),
           ),

@@ -1,10 +1,9 @@
 -- The answers of a call for a page of filesystems.
-use Rattle.std.proofs.Common.{◌≡◌, ◌≤◌, ◌<◌, ℕ, List, [], ◌∷◌, ◌++◌, length, inr, Option, Some, None, option_map, IfSome, option_and_then, slice_get, Ok, Err, refl, sym, ap, subst, ◌∙◌, arith}
+use Rattle.std.proofs.Common.{◌≡◌, ◌≤◌, ◌<◌, ℕ, List, [], ◌∷◌, length, inr, Option, Some, None, option_map, IfSome, option_and_then, slice_get, Ok, Err, refl, sym, ap, subst, ◌∙◌, arith}
 use Rattle.namespace_model.specs.declared.op.Op.TheVariants as op
 use Rattle.namespace_model.specs.declared.request.Entry.{Entry}
 use Rattle.namespace_model.specs.declared.request.Request.{Request}
 use Rattle.namespace_model.specs.ListFilesystems.{list_filesystems, filesystems, filesystems_body, filesystems_listed}
-use Rattle.namespace_model.specs.Locality.{Among}
 use Rattle.namespace_model.specs.Outcomes.{Outcome, answered, reading, unless}
 use Rattle.namespace_model.specs.Pages.{Page, page_of, above}
 use Rattle.namespace_model.specs.Refusals.{caller_of, is_no_superuser}
@@ -14,7 +13,6 @@ use Rattle.namespace_model.specs.Step.{acts}
 use Rattle.namespace_model.specs.Trees.{Path, Tree}
 use Rattle.inode_tree.specs.declared.draft.Draft.{Draft}
 use Rattle.inode_tree.specs.declared.draft.EvalStop.TheVariants as stop
-use Rattle.inode_tree.specs.declared.id.NodeId.{NodeId}
 use Rattle.inode_tree.specs.declared.need.Need.{Need}
 use Rattle.inode_tree.specs.After.{known}
 use Rattle.inode_tree.specs.Footprints.{ids_of}
@@ -31,8 +29,9 @@ use Rattle.path_walk.proofs.AnswerLemmas.{answer_is_draft, read_need, outcome_re
 use Rattle.path_walk.proofs.SetLemmas.{one_has, one_lies}
 use Rattle.std.proofs.Math.Nat.{mod-lt}
 use Rattle.std.proofs.Math.Dec.{lit<}
+use Rattle.path_order.specs.Needs.{NeedsNode}
 use Rattle.op_filesystem.specs.declared.page.Listed.{Listed}
-use Rattle.op_filesystem.specs.Listed.{root_of, page_behind, NeedsNode, IsListed, NeedsListed, IsToldPage}
+use Rattle.op_filesystem.specs.Listed.{root_of, page_behind, IsListed, NeedsListed, IsToldPage}
 use Rattle.op_filesystem.proofs.SuperuserLemmas.{AsksFirst, let_on}
 
 abbrev first_of : Option Path → Option (List ℕ)

@@ -1,5 +1,5 @@
 -- The root of a filesystem on which the superuser calls: what the step reads of it, and what the answers owe.
-use Rattle.std.proofs.Common.{◌≡◌, List, [], ◌∷◌, ◌++◌, length, Option, Some, None, Ok, Err, refl, sym, ap, subst, ◌∙◌, arith}
+use Rattle.std.proofs.Common.{◌≡◌, [], ◌∷◌, length, Option, Some, None, Ok, Err, refl, sym, ap, ◌∙◌, arith}
 use Rattle.namespace_model.specs.declared.caller.Caller.{Caller}
 use Rattle.namespace_model.specs.declared.code.Code.TheVariants.{FilesystemNotFound, PathNotFound}
 use Rattle.namespace_model.specs.declared.request.Entry.{Entry}

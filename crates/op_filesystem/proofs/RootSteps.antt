@@ -1,5 +1,5 @@
 -- The steps of the calls that show, change and delete a filesystem, and what they make of its root.
-use Rattle.std.proofs.Common.{◌≡◌, ◌≢◌, inr, ℕ, Bool, true, List, [], ◌∷◌, ◌++◌, length, is_some, Option, Some, None, Err, refl, sym, ap, subst, ◌∙◌, append-nil, arith}
+use Rattle.std.proofs.Common.{◌≡◌, ◌≢◌, inr, ℕ, true, List, [], ◌∷◌, ◌++◌, length, is_some, Some, None, Err, refl, sym, ap, subst, ◌∙◌, append-nil, arith}
 use Rattle.namespace_model.specs.declared.op.Op.{Op}
 use Rattle.namespace_model.specs.declared.op.Op.TheVariants as op
 use Rattle.namespace_model.specs.declared.reply.Reply.{Reply}
@@ -43,7 +43,7 @@ use Rattle.path_walk.specs.declared.edits.Verdict.{Verdict}
 use Rattle.path_walk.specs.declared.edits.Verdict.TheVariants as verdict
 use Rattle.path_walk.specs.declared.removals.Removal.{Removal}
 use Rattle.path_walk.specs.Calls.{IsCall, Answers, GoesOn}
-use Rattle.path_walk.specs.Edits.{AreEdits, IsEditOf, IsVerdict, IsSeat, Leave}
+use Rattle.path_walk.specs.Edits.{AreEdits, IsSeat, Leave}
 use Rattle.path_walk.specs.Finds.{read_to}
 use Rattle.path_walk.specs.Removals.{taken_out}
 use Rattle.path_walk.specs.Settles.{LooksAs, IsVerdictOf, IsRemovalOf}
@@ -57,7 +57,7 @@ use Rattle.path_order.specs.declared.whole.Subtree.{Subtree}
 use Rattle.path_order.specs.PagesBelow.{ids_in}
 use Rattle.path_order.specs.Subtrees.{IsTop, IsSubtree, NeedsSubtree}
 use Rattle.op_filesystem.specs.Roots.{AsksRoot, IsRootReached, shown_reply}
-use Rattle.op_filesystem.proofs.RootLemmas.{is_root, behind_root, looks_at}
+use Rattle.op_filesystem.proofs.RootLemmas.{behind_root, looks_at}
 use Rattle.op_filesystem.proofs.SuperuserLemmas.{called_by}
 
 abbrev Given : Type 0

@@ -1,13 +1,11 @@
 -- A page of filesystems, by the nodes that were looked at.
-use Rattle.std.specs.Prelude.{◌≡◌, ℕ, ◌%◌, ◌<◌, Bool, true, false}
+use Rattle.std.specs.Prelude.{◌≡◌, ℕ, Bool, true}
 use Rattle.std.specs.Prelude.{List, [], ◌∷◌, length, take, bytes_eq, Option, Some, None, option_map, IsSome}
 use Rattle.std.specs.declared.cmp.Ordering.TheVariants.{Less}
-use Rattle.lock_core.specs.declared.object.LockMode.TheVariants.{Shared}
 use Rattle.serde_json.specs.View.{view, items_view}
 use Rattle.serde_json.specs.declared.value.Value.{Value}
 use Rattle.path_text.specs.Names.{is_fs_name}
 use Rattle.namespace_model.specs.ListFilesystems.{filesystems, filesystem_data, filesystem_items, filesystems_body}
-use Rattle.namespace_model.specs.Locality.{Among}
 use Rattle.namespace_model.specs.Nodes.{Node}
 use Rattle.namespace_model.specs.Pages.{Page, page_of, above}
 use Rattle.namespace_model.specs.Replies.{page_fields, with_body}
@@ -17,12 +15,13 @@ use Rattle.inode_tree.specs.declared.need.Need.{Need}
 use Rattle.inode_tree.specs.ChildLists.{name_cmp, is_above}
 use Rattle.inode_tree.specs.Footprints.{ids_of}
 use Rattle.inode_tree.specs.Inodes.{BareInode}
-use Rattle.inode_tree.specs.Parts.{Parts, child_of, follow}
+use Rattle.inode_tree.specs.Parts.{Parts, child_of}
 use Rattle.inode_tree.specs.Promises.{numbers_of}
 use Rattle.inode_tree.specs.Stands.{Stands}
-use Rattle.inode_tree.specs.Views.{Held, Shown, Agrees, covers, shown_at}
+use Rattle.inode_tree.specs.Views.{Held, Shown, Agrees, shown_at}
 use Rattle.path_walk.specs.Answers.{IsAnswered}
 use Rattle.path_walk.specs.Visits.{AreLookedAt, IsHeldAndShown}
+use Rattle.path_order.specs.Needs.{NeedsOneOf}
 use Rattle.op_filesystem.specs.declared.page.Listed.{Listed}
 
 -- ---- names
@@ -62,12 +61,6 @@ pub record IsAccount (held : Held) (shown : Shown) (x : BareInode) : Type 0 wher
   pub looks : shown_at shown 0 ≡ Some x
   pub looked : IsHeldAndShown held shown 0
 
--- a node lies in a stripe that isn't held
-pub record NeedsNode (held : Held) (id : ℕ) (n : Need) : Type 0 where
-  pub stripe : n.stripe ≡ id % 64
-  pub asks : n.mode ≡ Shared
-  pub lacks : covers (held (id % 64)) Shared ≡ false
-
 -- the value tells of the root of this name
 abbrev pub IsTold : List ℕ → Node → Value → Type 0
 IsTold name x value = view value ≡ filesystem_data (name ∷ []) x
@@ -97,14 +90,8 @@ pub record IsListed (held : Held) (shown : Shown) (prefix : List ℕ) (from : Op
   pub looked : AreLookedAt held shown page.reads.items
 
 -- a stripe that isn't held, in which a root of the page lies
-pub record NeedsListed (held : Held) (shown : Shown) (prefix : List ℕ) (from : Option (List ℕ)) (max : ℕ)
-    (n : Need) : Type 0 where
-  pub within : n.stripe < 64
-  pub asks : n.mode ≡ Shared
-  pub lacks : covers (held n.stripe) Shared ≡ false
-  pub needed : (parts : Parts) (t : Tree) → Stands parts t → Agrees shown parts
-      → (q : Path) × ((id : ℕ) ×
-      (Among q (page_behind t prefix from max).paths × ((follow parts 0 q ≡ Some id) × (n.stripe ≡ id % 64))))
+abbrev pub NeedsListed : Held → Shown → List ℕ → Option (List ℕ) → ℕ → Need → Type 0
+NeedsListed held shown prefix from max n = NeedsOneOf held shown (λ t. (page_behind t prefix from max).paths) n
 
 -- ---- its reply
 

@@ -1,5 +1,5 @@
 -- What is found at the root of a filesystem on which the superuser calls, and what it shows.
-use Rattle.std.specs.Prelude.{◌≡◌, ℕ, List, [], ◌∷◌, ◌++◌, length, None, Ok}
+use Rattle.std.specs.Prelude.{◌≡◌, List, [], ◌∷◌, ◌++◌, length, None, Ok}
 use Rattle.namespace_model.specs.declared.code.Code.TheVariants.{FilesystemNotFound}
 use Rattle.namespace_model.specs.declared.field.Field.TheVariants.{NamespaceEnabled}
 use Rattle.namespace_model.specs.declared.reply.Reply.{Reply}

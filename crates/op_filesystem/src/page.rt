@@ -5,10 +5,11 @@ ghost use Rattle.inode_tree.specs.Views.{IsKnown, shown_at};
 ghost use Rattle.inode_tree.specs.declared.draft.EvalStop.TheVariants as stop;
 ghost use Rattle.inode_tree.specs.declared.need.Need.{Need};
 ghost use Rattle.path_order.specs.Starts.{IsAtFor};
+ghost use Rattle.path_order.specs.Needs.{NeedsNode};
 ghost use Rattle.path_text.specs.Names.{is_fs_name};
 ghost use Rattle.path_walk.specs.Calls.{GoesOn};
 ghost use Rattle.path_walk.specs.Visits.{IsHeldAndShown};
-ghost use Rattle.op_filesystem.specs.Listed.{IsAccount, IsTold, IsListed, NeedsNode, NeedsListed};
+ghost use Rattle.op_filesystem.specs.Listed.{IsAccount, IsTold, IsListed, NeedsListed};
 
 use super::names::next_named;
 use body_text::filesystem_value;

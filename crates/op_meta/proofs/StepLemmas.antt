@@ -18,10 +18,10 @@ use Rattle.namespace_model.specs.Trees.{Path, Tree}
 use Rattle.inode_tree.specs.Inodes.{BareInode, node_of}
 use Rattle.path_walk.specs.declared.call.Call.{Call}
 use Rattle.path_walk.specs.declared.edits.Verdict.{Verdict}
-use Rattle.path_walk.specs.Calls.{IsCall, path_of}
+use Rattle.path_walk.specs.Calls.{IsCall, path_of, entry_of}
 use Rattle.path_walk.specs.Edits.{IsVerdict}
 use Rattle.path_walk.specs.Settles.{LooksAs, IsVerdictOf}
-use Rattle.op_meta.specs.Metas.{IsOfMeta, comes_of, entry_of, IsVerdictOfNode}
+use Rattle.op_meta.specs.Metas.{IsOfMeta, comes_of, IsVerdictOfNode}
 
 -- ---- the step
 

@@ -22,6 +22,7 @@ use Rattle.inode_tree.specs.Inodes.{BareInode, node_of}
 use Rattle.path_walk.specs.declared.call.Call.{Call}
 use Rattle.path_walk.specs.declared.edits.Verdict.{Verdict}
 use Rattle.path_walk.specs.Edits.{IsVerdict}
+use Rattle.path_walk.specs.Calls.{entry_of}
 use Rattle.op_meta.specs.declared.access.Setting.{Setting}
 
 -- the operations of this evaluator
@@ -46,10 +47,6 @@ comes_of e p (op.SetAccess path owner group permissions acl) x =
     set_access_of e p (record { owner = owner; group = group; permissions = permissions; acl = acl }) x
 comes_of e p (op.Lease path action) x = lease_node e p action x
 comes_of e p other x = refused NotBuiltYet
-
--- An entry of a call. On which connection it came doesn't matter to what comes of the node.
-abbrev pub entry_of : Call → Entry
-entry_of call = record { conn = 0; index = 0; moment = call.moment; request = call.request.now }
 
 -- the verdict says what comes of the node
 abbrev pub IsVerdictOfNode : Call → BareInode → Verdict → Type 0

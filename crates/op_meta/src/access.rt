@@ -7,8 +7,8 @@ ghost use Rattle.namespace_model.specs.CheckAccess.{checked_on};
 ghost use Rattle.namespace_model.specs.GetAccess.{access_of, access_shown};
 ghost use Rattle.namespace_model.specs.Outcomes.{answered};
 ghost use Rattle.namespace_model.specs.SetAccess.{set_access_of, access_put, has_default, by_mode, pair_set, sticky_set};
-ghost use Rattle.op_meta.specs.Metas.{entry_of, setting_of, access_meta, access_set};
-ghost use Rattle.path_walk.specs.Calls.{IsCall};
+ghost use Rattle.op_meta.specs.Metas.{setting_of, access_meta, access_set};
+ghost use Rattle.path_walk.specs.Calls.{IsCall, entry_of};
 ghost use Rattle.path_walk.specs.Edits.{IsVerdict};
 
 use acl_text::{AclList, AclPair, AclStop, Id, ModeBits, Perm, Scope, set, with_mode, write_acl};

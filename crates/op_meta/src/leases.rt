@@ -4,8 +4,7 @@ ghost use Rattle.inode_tree.specs.Inodes.{node_of};
 ghost use Rattle.lease_state.specs.declared.lease.TheConstants.{LAST_MOMENT};
 ghost use Rattle.namespace_model.specs.LeaseNode.{seconds_left, action_status, action_fields, lease_node, lease_put};
 ghost use Rattle.namespace_model.specs.Replies.{success, node_fields};
-ghost use Rattle.op_meta.specs.Metas.{entry_of};
-ghost use Rattle.path_walk.specs.Calls.{IsCall};
+ghost use Rattle.path_walk.specs.Calls.{IsCall, entry_of};
 ghost use Rattle.path_walk.specs.Edits.{IsVerdict};
 
 use acl_text::Perm;

@@ -4,8 +4,7 @@ ghost use Rattle.inode_tree.specs.Inodes.{node_of};
 ghost use Rattle.namespace_model.specs.GetProperties.{properties_of, properties_shown};
 ghost use Rattle.namespace_model.specs.Outcomes.{answered};
 ghost use Rattle.namespace_model.specs.SetProperties.{set_properties_of, properties_set};
-ghost use Rattle.op_meta.specs.Metas.{entry_of};
-ghost use Rattle.path_walk.specs.Calls.{IsCall};
+ghost use Rattle.path_walk.specs.Calls.{IsCall, entry_of};
 ghost use Rattle.path_walk.specs.Edits.{IsVerdict};
 
 use acl_text::Perm;

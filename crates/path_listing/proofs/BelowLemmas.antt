@@ -21,11 +21,11 @@ use Rattle.path_order.specs.PagesBelow.{below, AreHeld, AreNodesOf, NeedsOfPage,
 use Rattle.path_order.specs.Starts.{IsStartBehind, NeedsOnTheWay}
 use Rattle.path_order.proofs.CursorLemmas.{end_is}
 use Rattle.path_order.proofs.ListingLemmas.{way_needs, page_needed}
-use Rattle.path_order.proofs.PageLemmas.{next_is, nothing_is, nodes_more, held_more, held_grows}
+use Rattle.path_order.proofs.PageLemmas.{next_is, nothing_is, nodes_more, held_more, held_grows, in_front, last_more}
 use Rattle.path_listing.specs.declared.rows.Page.{Page}
 use Rattle.path_listing.specs.declared.rows.Row.{Row}
 use Rattle.path_listing.specs.Listed.{paths_in, nodes_in, way_read, IsPage, IsPageOf, IsPageFrom, NeedsPage}
-use Rattle.path_listing.proofs.RowLemmas.{paths_more, rows_nodes_more, last_rows, more_rows, in_front}
+use Rattle.path_listing.proofs.RowLemmas.{paths_more, rows_nodes_more, last_rows, more_rows}
 
 -- the nodes so far and their paths: the rest comes behind them
 pub record AreSoFar (held : Held) (shown : Shown) (dir token : Path) (count : ℕ) (c : Cursor) (done : List Path) (nodes : List Seen) : Type 0 where
@@ -44,10 +44,6 @@ no_rows held shown dir token c rows none is =
 
 pub rows_as : {held later : Held} {shown : Shown} {dir token : Path} {count : ℕ} {c : Cursor} (rows : List Row) → later ≡ held → AreRows held shown dir token count c rows → AreRows later shown dir token count c rows
 rows_as {shown} {dir} {token} {count} {c} rows same is = subst (λ h. AreRows h shown dir token count c rows) (sym same) is
-
-last_more : (token : Path) (done : List Path) (q : Path) → last_of token (done ++ q ∷ []) ≡ q
-last_more token [] q = refl
-last_more token (p ∷ done) q = last_more p done q
 
 module _ (held : Held) (old new : Shown) (dir token : Path) (count : ℕ) (before after : Cursor) (rows : List Row) (grows : Grows old new) (is : AreRows held old dir token count before rows) where
   abbrev done : List Path
@@ -180,9 +176,6 @@ nothing_read held shown dir recursive token max p none way rows no_more = record
   looked = subst (λ (l : List Row). AreHeld held shown (nodes_in l)) (sym rows) tt;
   looked_way = subst (λ l. AreHeld held shown l) (sym way) tt;
 }
-
-pub start_as : {held later : Held} {shown : Shown} {dir : Path} {token : Option Path} {s : Start} → later ≡ held → IsStartBehind held shown dir token s → IsStartBehind later shown dir token s
-start_as {shown} {dir} {token} {s} same is = subst (λ h. IsStartBehind h shown dir token s) (sym same) is
 
 -- what a listing needs its page needs
 listing_lacks : (held : Held) (shown : Shown) (dir : Path) (token : Option Path) (max : ℕ) (n : Need) → NeedsListing held shown dir token max n → NeedsPage held shown dir true token max n

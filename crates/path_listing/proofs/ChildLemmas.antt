@@ -1,5 +1,5 @@
 -- The page of a directory's children, row by row.
-use Rattle.std.proofs.Common.{◌≡◌, ◌≢◌, ◌⊎◌, inl, inr, ℕ, ◌+◌, ◌<◌, ◌≤◌, Bool, true, false, cond, List, [], ◌∷◌, ◌++◌, length, take, slice_get, Option, Some, None, is_some, option_map, refl, sym, ap, subst, ◌∙◌, append_assoc, append-nil, length-append, arith}
+use Rattle.std.proofs.Common.{◌≡◌, inl, inr, ℕ, ◌+◌, ◌<◌, ◌≤◌, false, cond, List, [], ◌∷◌, ◌++◌, length, take, slice_get, Option, Some, None, is_some, option_map, refl, sym, ap, subst, ◌∙◌, append_assoc, append-nil, length-append, arith}
 use Rattle.std.proofs.lemmas.Bool.{false≢true, cases_Bool}
 use Rattle.std.proofs.lemmas.Option.{same_Some}
 use Rattle.std.proofs.Math.Nat.{mod-lt}
@@ -11,10 +11,10 @@ use Rattle.path_text.specs.Paths.{path_cmp, is_prefix}
 use Rattle.namespace_model.specs.Locality.{Among}
 use Rattle.namespace_model.specs.Pages.{is_above, above, page_of}
 use Rattle.namespace_model.specs.Trees.{Path, Tree, at, is_child, children}
-use Rattle.namespace_model.proofs.Lookups.{among_keys, keys_among}
+use Rattle.namespace_model.proofs.Lookups.{keys_among}
 use Rattle.namespace_model.proofs.PageLaws.{above_before, before_above}
-use Rattle.namespace_model.proofs.PageOrder.{before_itself, before_trans, before_both, before_tells, keys_ascend}
-use Rattle.namespace_model.proofs.Prefixes.{child_name, name_child, front_of_itself}
+use Rattle.namespace_model.proofs.PageOrder.{before_itself, before_trans, before_both, before_tells}
+use Rattle.namespace_model.proofs.Prefixes.{child_name, front_of_itself}
 use Rattle.inode_tree.specs.declared.id.NodeId.{NodeId}
 use Rattle.inode_tree.specs.declared.need.Need.{Need}
 use Rattle.inode_tree.specs.FirstChild.{IsFirstChild, IsChildAbove}
@@ -26,67 +26,25 @@ use Rattle.inode_tree.proofs.IndexLemmas.{index_from_stands}
 use Rattle.path_walk.specs.Visits.{IsHeldAndShown}
 use Rattle.path_walk.proofs.TrailLemmas.{agreed, agrees_before}
 use Rattle.path_order.specs.declared.cursor.Seen.{Seen}
-use Rattle.path_order.specs.Cursors.{Before, IsAt}
+use Rattle.path_order.specs.Cursors.{Before}
 use Rattle.path_order.specs.PagesBelow.{IsNodeOf, AreNodesOf, AreHeld}
 use Rattle.path_order.specs.Starts.{IsAtFor}
-use Rattle.path_order.proofs.CursorLemmas.{next_name, first_name, no_name_behind, nothing_left, laid, names_lead}
-use Rattle.path_order.proofs.NextPath.{by_bytes, less_no_greater, apart_same, front_first, names_tell, by_names, behind_name, IsNextName, next_below, next_of, none_of}
-use Rattle.path_order.proofs.PageLemmas.{nodes_more, held_more, held_grows}
+use Rattle.path_order.proofs.CursorLemmas.{names_lead}
+use Rattle.path_order.proofs.NextPath.{less_no_greater, apart_same, front_first, names_tell, by_names, none_of}
+use Rattle.path_order.proofs.PageLemmas.{nodes_more, held_more, held_grows, in_front}
 use Rattle.path_order.proofs.TokenLemmas.{all_behind}
+use Rattle.path_order.specs.Needs.{NeedsNode}
+use Rattle.path_order.specs.Children.{left_at}
+use Rattle.path_order.proofs.ChildOrder.{all_left, one_left, none_left}
 use Rattle.path_listing.specs.declared.rows.Page.{Page}
 use Rattle.path_listing.specs.declared.rows.Row.{Row}
-use Rattle.path_listing.specs.Listed.{paths_in, nodes_in, left_at, IsLookOf, IsPage, IsPageOfChildren, NeedsChildren, NeedsNode, NeedsPage}
-use Rattle.path_listing.proofs.RowLemmas.{paths_more, rows_nodes_more, last_rows, more_rows, paths_long, in_front}
+use Rattle.path_listing.specs.Listed.{paths_in, nodes_in, IsLookOf, IsPage, IsPageOfChildren, NeedsChildren, NeedsPage}
+use Rattle.path_listing.proofs.RowLemmas.{paths_more, rows_nodes_more, last_rows, more_rows, paths_long}
 
 -- ---- the children in path order
 
 child_behind : (t : Tree) (p q : Path) → Among q (children t p) → (n : List ℕ) × (q ≡ p ++ n ∷ [])
 child_behind t p q h = child_name p q (keys_among t (is_child p) q h).0
-
--- at the beginning all of them are left
-pub all_left : (t : Tree) (p : Path) → left_at t p None ≡ children t p
-all_left t p = all_behind p (children t p) (λ q h. let name = child_behind t p q h in subst (λ r. Before p r) (sym name.1) (front_first p name.0 []))
-
-behind_by : (p : Path) (n k : List ℕ) → Before (p ++ n ∷ []) (p ++ k ∷ []) → by_bytes n k ≡ Less
-behind_by p n k before = elim (names_tell n k) [
-  | inl less ↦ less
-  | inr other ↦ elim other [
-    | inl same ↦ absurd (before_itself (p ++ n ∷ []) (subst (λ j. Before (p ++ n ∷ []) (p ++ j ∷ [])) (sym same) before))
-    | inr more ↦ absurd (less_no_greater (sym before ∙ by_names p n [] k [] Greater more))
-  ]
-]
-
-next_child : (t : Tree) (p : Path) (n m : List ℕ) → IsNextName t p n m → left_at t p (Some n) ≡ (p ++ m ∷ []) ∷ left_at t p (Some m)
-next_child t p n m next =
-    next_of (p ++ n ∷ []) (p ++ m ∷ []) (children t p) (keys_ascend t (is_child p)) (among_keys t (is_child p) (p ++ m ∷ []) next.there (name_child p m)) (by_names p n [] m [] Less next.behind)
-    (λ r h before.
-    let key = keys_among t (is_child p) r h in
-    let name = child_name p r key.0 in
-    let later = behind_by p n name.0 (subst (λ q. Before (p ++ n ∷ []) q) name.1 before) in
-    subst (λ q. (q ≡ p ++ m ∷ []) ⊎ Before (p ++ m ∷ []) q) (sym name.1) (behind_name p m name.0 [] (next.first name.0 later (ap (λ q. is_some (at t q)) (sym name.1) ∙ key.1))))
-
-module _ (parts : Parts) (t : Tree) (stands : Stands parts t) (p : Path) (id : ℕ) (x : BareInode) (is : IsAt parts p id x) where
-  -- the first one behind a name, and those behind it
-  one_left : (last : Option (List ℕ)) (m : List ℕ) (c : ℕ) → IsFirstChild x last m c → left_at t p last ≡ (p ++ m ∷ []) ∷ left_at t p (Some m)
-  one_left None m c child =
-      let next = next_below t (laid parts t stands) p m (first_name parts t stands p id x m c is child) in
-      next_of p (p ++ m ∷ []) (children t p) (keys_ascend t (is_child p)) (among_keys t (is_child p) (p ++ m ∷ []) next.there (name_child p m)) next.behind
-      (λ r h before. next.first r (keys_among t (is_child p) r h).1 before)
-  one_left (Some n) m c child = next_child t p n m (next_name parts t stands p id x n m c is child)
-
-  -- or none is left
-  none_left : (last : Option (List ℕ)) → IsChildAbove x last None → left_at t p last ≡ []
-  none_left None none =
-      none_of p (children t p) (λ r h before.
-      let key = keys_among t (is_child p) r h in
-      let name = child_name p r key.0 in
-      nothing_left parts t stands p id x is none name.0 [] (ap (λ q. is_some (at t q)) (sym name.1) ∙ key.1) (subst (λ q. Before p q) name.1 before))
-  none_left (Some n) none =
-      none_of (p ++ n ∷ []) (children t p) (λ r h before.
-      let key = keys_among t (is_child p) r h in
-      let name = child_name p r key.0 in
-      let later = behind_by p n name.0 (subst (λ q. Before (p ++ n ∷ []) q) name.1 before) in
-      false≢true (sym (no_name_behind parts t stands p id x n is none name.0 later) ∙ ap (λ q. is_some (at t q)) (sym name.1) ∙ key.1))
 
 -- ---- by a token
 
@@ -98,11 +56,6 @@ above_as a b (x ∷ xs) same =
 
 pub no_token : (dir : Path) (t : Tree) → above None (children t dir) ≡ left_at t dir None
 no_token dir t = sym (all_left t dir)
-
-same_tests : (a b : Bool) → (a ≡ true → b ≡ true) → (b ≡ true → a ≡ true) → a ≡ b
-same_tests true b to from = sym (to refl)
-same_tests false false to from = refl
-same_tests false true to from = from refl
 
 -- what is behind a path below a child is behind the child
 behind_both : (dir : Path) (n m : List ℕ) (rest : Path) → is_above (dir ++ n ∷ rest) (dir ++ m ∷ []) ≡ is_above (dir ++ n ∷ []) (dir ++ m ∷ [])

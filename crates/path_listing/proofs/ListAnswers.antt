@@ -1,6 +1,5 @@
 -- What the answers of a listing owe: on the way, where nothing is found, at the directory, and by the page that was read.
-use Rattle.std.proofs.Common.{◌≡◌, ◌≢◌, ◌⊎◌, inl, inr, ℕ, ◌≤◌, Bool, true, false, ◌||◌, List, [], ◌++◌, length, Option, Some, None, unwrap_or, Ok, Err, refl, sym, ap, subst, ◌∙◌, arith}
-use Rattle.std.proofs.lemmas.Bool.{false≢true}
+use Rattle.std.proofs.Common.{◌≡◌, ◌≢◌, inl, inr, ℕ, ◌≤◌, Bool, true, false, List, [], ◌++◌, length, Option, Some, None, unwrap_or, Ok, Err, refl, sym, ap, subst, ◌∙◌, arith}
 use Rattle.namespace_model.specs.declared.caller.Caller.{Caller}
 use Rattle.namespace_model.specs.declared.op.Op.TheVariants as op
 use Rattle.namespace_model.specs.declared.reply.Reply.{Reply}
@@ -14,8 +13,7 @@ use Rattle.namespace_model.specs.Pages as model
 use Rattle.namespace_model.specs.Refusals.{caller_of, nobody, or_else, first_refusal}
 use Rattle.namespace_model.specs.Sound.{IsOperation}
 use Rattle.namespace_model.specs.Step.{acts}
-use Rattle.namespace_model.specs.Trees.{Path, Tree, at}
-use Rattle.namespace_model.specs.Ways.{Way, reached, missing, blocked, closed, way_of}
+use Rattle.namespace_model.specs.Trees.{Path, Tree}
 use Rattle.namespace_model.proofs.Alikeness.{among_right}
 use Rattle.namespace_model.proofs.WayLemmas.{reading_both}
 use Rattle.inode_tree.specs.declared.draft.Draft.{Draft}
@@ -39,11 +37,13 @@ use Rattle.path_walk.specs.declared.find.Found.TheVariants as found
 use Rattle.path_walk.specs.Answers.{IsAnswered, found_outcome}
 use Rattle.path_walk.specs.Calls.{IsCall, Answers, GoesOn}
 use Rattle.path_walk.specs.Finds.{read_to, IsFindFor, IsNeedOfFind}
-use Rattle.path_walk.specs.Visits.{AreLookedAt, end_of}
+use Rattle.path_walk.specs.Visits.{AreLookedAt}
 use Rattle.path_walk.proofs.AnswerLemmas.{answer_is_draft, read_need, outcome_reads}
 use Rattle.path_walk.proofs.CallLemmas.{agrees_earlier, looked_later}
 use Rattle.path_walk.proofs.FindLemmas.{node_found, ids_of_append}
+use Rattle.path_walk.proofs.CallAnswers.{found_answer, found_lacks}
 use Rattle.path_walk.proofs.LookAnswers as look
+use Rattle.path_walk.proofs.ReadLemmas.{or_tells}
 use Rattle.path_walk.proofs.SetLemmas.{one_has, one_lies}
 use Rattle.path_walk.proofs.TrailLemmas.{one_of_append}
 use Rattle.path_order.specs.PagesBelow.{ids_in, AreNodesOf}
@@ -57,10 +57,6 @@ use Rattle.path_listing.specs.Listed.{paths_in, nodes_in, way_read, page_closed,
 use Rattle.path_listing.proofs.ListSteps.{step_is, node_is, paged_is, asked, reply_of, first_both}
 use Rattle.path_listing.proofs.RowLemmas.{rows_shown, rows_asked, rows_timely}
 use Rattle.path_listing.proofs.WayFronts.{way_first, way_within, no_way_within}
-
-or_tells : (a b : Bool) → (a || b) ≡ true → (a ≡ true) ⊎ (b ≡ true)
-or_tells true b e = inl refl
-or_tells false b e = inr e
 
 module _ (call : Call) (is : IsCall call) (wanted : Wanted) (asks_for : IsAsked call wanted) where
   abbrev path : Path
@@ -78,7 +74,10 @@ module _ (call : Call) (is : IsCall call) (wanted : Wanted) (asks_for : IsAsked 
   abbrev max : ℕ
   max = wanted.max
 
-  step : (t : Tree) (e : Entry) → e.request ≡ call.request.now → acts t e e.request.op ≡ looks.found t e path (list_node t e path recursive token max)
+  abbrev some_of : Tree → Entry → Node → Outcome
+  some_of t e = list_node t e path recursive token max
+
+  step : (t : Tree) (e : Entry) → e.request ≡ call.request.now → acts t e e.request.op ≡ looks.found t e path (some_of t e)
   step t e asks = ap (λ (r : Request). acts t e r.op) asks ∙ ap (acts t e) asks_for ∙ step_is t e path recursive token max
 
   by_it : (e : Entry) → e.request ≡ call.request.now → caller_of e ≡ caller
@@ -99,46 +98,11 @@ module _ (call : Call) (is : IsCall call) (wanted : Wanted) (asks_for : IsAsked 
   pub lost_answer : (held : Held) (shown : Shown) (f : Find) (other : Found) (reply : Reply) (d : Draft) → IsFindFor shown caller path f → AreLookedAt held shown f.ids.items → f.found ≡ other
       → IsAnswered call.request.now.close reply f.ids.items d → ((some : Node → Outcome) → found_outcome path some other ≡ answered reply) → Answers held shown call (Ok d)
   lost_answer held shown f other reply d finds looked same answers says =
-      answer_is_draft held shown call.request.now call.moment call.fresh reply f.ids.items d is.sound looked answers (λ parts t e possible of.
-      let find = finds parts t possible.stands possible.agrees in
-      let some = list_node t e.entry path recursive token max in (
-        read_to t caller path,
-        step t e.entry of.asks ∙ look.found_is t e.entry path some caller (by_it e.entry of.asks) f.found find.found_is
-            ∙ ap (λ o. reading (read_to t caller path) (found_outcome path some o)) same ∙ ap (reading (read_to t caller path)) (says some),
-        λ id. ap (is_one_of id) find.read,
-      ))
-
-  abbrev is_reached_way : Way → Bool
-  is_reached_way reached = true
-  is_reached_way (missing d) = false
-  is_reached_way (blocked q) = false
-  is_reached_way (closed q r) = false
-
-  -- whatever is found, what is read to find it comes first
-  found_there : (t : Tree) (e : Entry) → e.request ≡ call.request.now → (after : Outcome) × (acts t e e.request.op ≡ reading (read_to t caller path) after)
-  found_there t e asks = by_way (way_of t caller path) refl (at t path) refl
-    where
-      some : Node → Outcome
-      some = list_node t e path recursive token max
-
-      lost : way_of t caller path ≢ reached → (after : Outcome) × (acts t e e.request.op ≡ reading (read_to t caller path) after)
-      lost un =
-          let s = found.Stopped (end_of (way_of t caller path)) in
-          (found_outcome path some s, step t e asks ∙ look.found_is t e path some caller (by_it e asks) s (un, refl))
-
-      by_way : (w : Way) → way_of t caller path ≡ w → (o : Option Node) → at t path ≡ o → (after : Outcome) × (acts t e e.request.op ≡ reading (read_to t caller path) after)
-      by_way reached same None none = (found_outcome path some found.Nothing, step t e asks ∙ look.found_is t e path some caller (by_it e asks) found.Nothing (same, none))
-      by_way reached same (Some x) there = (some x, step t e asks ∙ look.node_is t e path some caller (by_it e asks) x same there)
-      by_way (missing d) same o there = lost (λ h. false≢true (ap is_reached_way (sym same ∙ h)))
-      by_way (blocked q) same o there = lost (λ h. false≢true (ap is_reached_way (sym same ∙ h)))
-      by_way (closed q r) same o there = lost (λ h. false≢true (ap is_reached_way (sym same ∙ h)))
+      found_answer held shown call some_of f reply d is step finds looked answers (λ t e asks comes. ap (λ o. found_outcome path (some_of t e) o) same ∙ says (some_of t e))
 
   -- a stripe on the way to the node isn't held
   pub find_needed : (held : Held) (shown : Shown) (n : Need) → IsNeedOfFind held shown caller path n → Answers held shown call (Err (stop.Need n))
-  find_needed held shown n needs =
-      read_need held shown call.request.now call.moment call.fresh n needs.within needs.asks needs.lacks (λ parts t e possible of.
-      let there = found_there t e.entry of.asks in
-      (read_to t caller path, outcome_reads t e (read_to t caller path) there.0 there.1, needs.needed parts t possible.stands possible.agrees))
+  find_needed held shown n needs = found_lacks held shown call some_of n is step needs
 
   -- the node was found
   pub directory_found : (held : Held) (shown : Shown) (f : Find) (id : NodeId) (x : BareInode) (d : Directory) → IsFindFor shown caller path f → AreLookedAt held shown f.ids.items → f.found ≡ found.Node id x

@@ -1,16 +1,14 @@
 -- Rows: their paths and nodes, what is asked of them, and that each has a date.
-use Rattle.std.proofs.Common.{◌≡◌, inl, inr, ℕ, zero, suc, ◌+◌, ◌-◌, ◌≤◌, ◌<◌, Bool, true, false, cond, List, [], ◌∷◌, ◌++◌, length, take, drop, slice_get, Option, Some, None, unwrap_or, is_some, refl, sym, ap, subst, ◌∙◌, append_assoc, arith}
+use Rattle.std.proofs.Common.{◌≡◌, ℕ, zero, suc, ◌+◌, ◌-◌, ◌≤◌, ◌<◌, true, false, cond, List, [], ◌∷◌, ◌++◌, length, take, drop, slice_get, Option, Some, None, unwrap_or, is_some, refl, sym, ap, subst, ◌∙◌, arith}
 use Rattle.std.proofs.lemmas.Bool.{false≢true}
 use Rattle.std.proofs.lemmas.Option.{same_Some}
 use Rattle.std.proofs.Math.Logic.{∥∥₁_elim}
-use Rattle.std.proofs.Math.Seq.{take-suc}
 use Rattle.std.specs.Coded.{le_prop}
 use Rattle.std.specs.Prelude.{slice_index_or}
 use Rattle.lease_state.specs.declared.lease.TheConstants.{LAST_MOMENT}
 use Rattle.namespace_model.specs.declared.caller.Caller.{Caller}
 use Rattle.namespace_model.specs.declared.reply.Reply.{Reply}
 use Rattle.namespace_model.specs.ListPaths.{is_closed}
-use Rattle.namespace_model.specs.Locality.{Among}
 use Rattle.namespace_model.specs.Nodes.{Node, blank}
 use Rattle.namespace_model.specs.Pages.{page_of}
 use Rattle.namespace_model.specs.Refusals.{or_else, first_refusal}
@@ -111,27 +109,6 @@ more_rows parts t dir max list done rows p q rest some named same more all full 
     page_with parts t dir max list done rows p named same
     (more_page max dir list done q rest some all full ∙ ap (λ b. record { paths = done; next = cond b (Some (last_of dir done)) None }) (sym more)) are
 
-pub in_front : (n : ℕ) (done : List Path) (q : Path) (rest : List Path) → length done < n → Among q (take n (done ++ q ∷ rest))
-in_front zero done q rest h = absurd (omega arith)
-in_front (suc n) [] q rest h = inl refl
-in_front (suc n) (p ∷ done) q rest h = inr (in_front n done q rest (omega arith))
-
--- ---- paths
-
-pub not_empty : (p names : Path) → (p ≡ [] → ⊥) → p ++ names ≡ [] → ⊥
-not_empty [] names some e = some refl
-not_empty (n ∷ p) names some e = absurd (false≢true (sym (ap is_any e)))
-  where
-    is_any : Path → Bool
-    is_any [] = false
-    is_any (n ∷ p) = true
-
-pub names_next : (path names : Path) (i : ℕ) (name : List ℕ) (whole longer : Path) → i < length names → name ≡ slice_index_or names i name → whole ≡ path ++ take i names → longer ≡ whole ++ name ∷ []
-    → longer ≡ path ++ take (i + 1) names
-names_next path names i name whole longer within item so_far is =
-    is ∙ ap (λ l. l ++ name ∷ []) so_far ∙ append_assoc path (take i names) (name ∷ [])
-    ∙ ap (λ l. path ++ l) (ap (λ x. take i names ++ x ∷ []) item ∙ sym (take-suc names i name within) ∙ ap (λ k. take k names) (let h : suc i ≡ i + 1 = omega arith in h))
-
 -- ---- questions, one after the other
 
 drop_next : {A : Type 0} (xs : List A) (i : ℕ) (x : A) → i < length xs → x ≡ slice_index_or xs i x → drop i xs ≡ x ∷ drop (suc i) xs
@@ -170,8 +147,3 @@ way_one caller token names depth more way i s o within item next asks so_far =
 pub way_none : (caller : Caller) (token : Path) (names depth : ℕ) (way : List Seen) (i : ℕ) → i ≡ length way → way_closed caller token names way ≡ way_closed caller token depth (drop i way)
     → None ≡ way_closed caller token names way
 way_none caller token names depth way i all so_far = sym (so_far ∙ ap (λ (l : List Seen). way_closed caller token depth l) (drop_all way i all))
-
--- an answer that is no refusal
-pub is_none : {A : Type 0} (o : Option A) → ((x : A) → o ≡ Some x → ⊥) → o ≡ None
-is_none None h = refl
-is_none (Some x) h = absurd (h x refl)

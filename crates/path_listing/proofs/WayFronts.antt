@@ -1,6 +1,6 @@
 -- The nodes on the way to a token are those of its fronts, each of one name more.
-use Rattle.std.proofs.Common.{◌≡◌, inl, inr, ℕ, suc, ◌+◌, ◌<◌, ◌≤◌, true, false, ◌&&◌, List, [], ◌∷◌, ◌++◌, length, take, Option, Some, None, is_some, refl, sym, ap, subst, ◌∙◌, append_assoc, append-nil, length-append, arith}
-use Rattle.std.proofs.lemmas.Bool.{false≢true, cases_Bool}
+use Rattle.std.proofs.Common.{◌≡◌, inl, inr, ℕ, suc, ◌+◌, ◌<◌, ◌≤◌, true, List, [], ◌∷◌, ◌++◌, length, take, Option, Some, None, is_some, refl, sym, ap, subst, ◌∙◌, append_assoc, append-nil, length-append, arith}
+use Rattle.std.proofs.lemmas.Bool.{cases_Bool}
 use Rattle.std.proofs.Math.Logic.{∥∥₁_elim}
 use Rattle.std.specs.Coded.{le_prop}
 use Rattle.path_text.specs.Paths.{is_prefix}
@@ -10,8 +10,7 @@ use Rattle.namespace_model.specs.Locality.{Among}
 use Rattle.namespace_model.specs.Pages.{on_the_way}
 use Rattle.namespace_model.specs.Refusals.{or_else, first_refusal}
 use Rattle.namespace_model.specs.Trees.{Path, Tree, at, is_below}
-use Rattle.namespace_model.proofs.Lookups.{keys_among}
-use Rattle.namespace_model.proofs.Prefixes.{both, front_of_append, below_names, behind_front}
+use Rattle.namespace_model.proofs.Prefixes.{behind_front}
 use Rattle.inode_tree.specs.Inodes.{node_of}
 use Rattle.inode_tree.specs.Parts.{Parts}
 use Rattle.inode_tree.specs.Stands.{Stands}
@@ -19,6 +18,7 @@ use Rattle.inode_tree.specs.Views.{Shown, Agreeing}
 use Rattle.path_order.specs.declared.cursor.Seen.{Seen}
 use Rattle.path_order.specs.PagesBelow.{AreNodesOf}
 use Rattle.path_order.proofs.WayLemmas.{fronts, LeadNowhere, way_is}
+use Rattle.path_order.proofs.TokenLemmas.{nothing_way}
 use Rattle.path_listing.specs.Listed.{way_closed, IsWayWithin}
 use Rattle.path_listing.proofs.RowLemmas.{node_shown}
 
@@ -74,19 +74,6 @@ same_fronts parts t p (n ∷ front) rest (s ∷ way) are =
           ∙ ap (λ k. fronts_of (p ++ n ∷ (front ++ rest)) k way) (length-append p (n ∷ []) ∙ (let h : length p + 1 ≡ suc (length p) = omega arith in h))),
       ap suc more.1,
     )
-
--- nothing is on the way to a token that isn't below the path
-nothing_way : (t : Tree) (dir token : Path) → is_prefix dir token ≡ false → on_the_way t (is_below dir) (Some token) ≡ []
-nothing_way t dir token apart = none_among (on_the_way t (is_below dir) (Some token)) (λ q h.
-    let parts = both (is_below dir q) (is_prefix q token) (keys_among t (λ r. is_below dir r && is_prefix r token) q h).0 in
-    let names = below_names dir q parts.0 in
-    let rest = behind_front q token parts.1 in
-    let is : token ≡ dir ++ (names.0 ∷ names.1 ++ rest.0) = rest.1 ∙ ap (λ r. r ++ rest.0) names.2 ∙ append_assoc dir (names.0 ∷ names.1) rest.0 in
-    false≢true (sym apart ∙ ap (is_prefix dir) is ∙ front_of_append dir (names.0 ∷ names.1 ++ rest.0)))
-  where
-    none_among : (xs : List Path) → ((q : Path) → Among q xs → ⊥) → xs ≡ []
-    none_among [] h = refl
-    none_among (x ∷ xs) h = absurd (h x (inl refl))
 
 -- the way of a page: its paths, and that there are no more of them than names
 record IsWay (t : Tree) (dir token : Path) (way : List Seen) : Type 0 where

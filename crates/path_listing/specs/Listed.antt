@@ -1,8 +1,7 @@
 -- What a listing asks of its directory, the page that it reads, and the reply by that page.
-use Rattle.std.specs.Prelude.{◌≡◌, ℕ, suc, ◌+◌, ◌%◌, ◌≤◌, ◌<◌, Bool, true, false, not, List, [], ◌∷◌, ◌++◌, length, map, take, slice_get, Option, Some, None, option_map, if◌then◌else◌}
+use Rattle.std.specs.Prelude.{◌≡◌, ℕ, suc, ◌+◌, ◌≤◌, ◌<◌, Bool, true, false, not, List, [], ◌∷◌, ◌++◌, length, map, take, slice_get, Option, Some, None, option_map, if◌then◌else◌}
 use Rattle.std.specs.Option.{unwrap_or}
 use Rattle.lease_state.specs.declared.lease.TheConstants.{LAST_MOMENT}
-use Rattle.lock_core.specs.declared.object.LockMode.TheVariants.{Shared}
 use Rattle.namespace_model.specs.declared.caller.Caller.{Caller}
 use Rattle.namespace_model.specs.declared.code.Code.TheVariants.{ResourceTypeMismatch}
 use Rattle.namespace_model.specs.declared.op.Op.{Op}
@@ -10,7 +9,6 @@ use Rattle.namespace_model.specs.declared.op.Op.TheVariants as op
 use Rattle.namespace_model.specs.declared.reply.Reply.{Reply}
 use Rattle.namespace_model.specs.Access.{read_execute}
 use Rattle.namespace_model.specs.ListPaths.{is_closed, list_page, paths_body}
-use Rattle.namespace_model.specs.Locality.{Among}
 use Rattle.namespace_model.specs.Nodes.{is_directory}
 use Rattle.namespace_model.specs.Pages.{page_of, above, on_the_way}
 use Rattle.namespace_model.specs.Refusals.{lacks, refuse_if, or_else}
@@ -21,16 +19,18 @@ use Rattle.inode_tree.specs.declared.id.NodeId.{NodeId}
 use Rattle.inode_tree.specs.declared.need.Need.{Need}
 use Rattle.inode_tree.specs.Footprints.{ids_of}
 use Rattle.inode_tree.specs.Inodes.{BareInode, node_of}
-use Rattle.inode_tree.specs.Parts.{Parts, follow}
+use Rattle.inode_tree.specs.Parts.{Parts}
 use Rattle.inode_tree.specs.Promises.{numbers_of}
 use Rattle.inode_tree.specs.Stands.{Stands}
-use Rattle.inode_tree.specs.Views.{Held, Shown, Agrees, covers, shown_at}
+use Rattle.inode_tree.specs.Views.{Held, Shown, Agrees, shown_at}
 use Rattle.path_walk.specs.declared.call.Call.{Call}
 use Rattle.path_walk.specs.Finds.{read_to}
 use Rattle.path_walk.specs.Visits.{AreLookedAt, IsHeldAndShown}
 use Rattle.path_order.specs.declared.cursor.Seen.{Seen}
 use Rattle.path_order.specs.Cursors.{IsAt}
 use Rattle.path_order.specs.PagesBelow.{below, last_of, AreHeld, AreNodesOf}
+use Rattle.path_order.specs.Needs.{NeedsOneOf}
+use Rattle.path_order.specs.Children.{left_at}
 use Rattle.path_listing.specs.declared.children.Begin.{Begin}
 use Rattle.path_listing.specs.declared.children.Begin.TheVariants as begin
 use Rattle.path_listing.specs.declared.eval.Directory.{Directory}
@@ -113,14 +113,6 @@ pub record IsPage (held : Held) (shown : Shown) (dir : Path) (recursive : Bool) 
   pub looked : AreHeld held shown (nodes_in page.rows.items)
   pub looked_way : AreHeld held shown page.way.items
 
--- a stripe that isn't held, in which a node of these paths lies
-pub record NeedsOneOf (held : Held) (shown : Shown) (paths : Tree → List Path) (n : Need) : Type 0 where
-  pub within : n.stripe < 64
-  pub asks : n.mode ≡ Shared
-  pub lacks : covers (held n.stripe) Shared ≡ false
-  pub needed : (parts : Parts) (t : Tree) → Stands parts t → Agrees shown parts
-      → (q : Path) × ((id : ℕ) × (Among q (paths t) × ((follow parts 0 q ≡ Some id) × (n.stripe ≡ id % 64))))
-
 -- one of those that a page reads
 abbrev pub NeedsPage : Held → Shown → Path → Bool → Option Path → ℕ → Need → Type 0
 NeedsPage held shown dir recursive token max n = NeedsOneOf held shown (λ t. way_read t dir recursive token ++ (list_page t dir recursive token max).paths) n
@@ -133,15 +125,6 @@ pub record IsPageFrom (held : Held) (shown : Shown) (dir token : Path) (max : �
   pub looked : AreHeld held shown (nodes_in page.rows.items)
 
 -- ---- the children of a directory
-
--- the place to which the last name leads, and the directory's own where there is none
-abbrev pub reached_at : Path → Option (List ℕ) → Path
-reached_at p None = p
-reached_at p (Some n) = p ++ n ∷ []
-
--- the children behind it
-abbrev pub left_at : Tree → Path → Option (List ℕ) → List Path
-left_at t p last = above (Some (reached_at p last)) (children t p)
 
 -- the children behind the token are those behind this name, or none
 abbrev pub IsBegin : Path → Option Path → Begin → Type 0
@@ -160,12 +143,6 @@ NeedsChildren held shown dir last max n = NeedsOneOf held shown (λ t. take max 
 -- a look at the node of an id
 abbrev pub IsLookOf : Held → Shown → NodeId → Seen → Type 0
 IsLookOf held shown id s = (s.id ≡ id) × (shown_at shown id.0 ≡ Some s.node) × IsHeldAndShown held shown id.0
-
--- a node lies in a stripe that isn't held
-pub record NeedsNode (held : Held) (id : ℕ) (n : Need) : Type 0 where
-  pub stripe : n.stripe ≡ id % 64
-  pub asks : n.mode ≡ Shared
-  pub lacks : covers (held (id % 64)) Shared ≡ false
 
 -- ---- the reply
 

@@ -11,12 +11,13 @@ ghost use Rattle.path_order.specs.PagesBelow.{last_of};
 ghost use Rattle.path_text.specs.Tokens.{is_on_page, token_text};
 ghost use Rattle.serde_json.specs.View.{view};
 
-use super::questions::{page_closed, path_of};
+use super::questions::page_closed;
 use super::rows::{Page, Row, Wanted};
 use body_text::{Contents, PathEntry, name_below, path_value, paths_body};
 use file_data::Piece;
 use inode_tree::{Content, NodeRef};
 use namespace_model::{Caller, Field, Media, Reply};
+use path_order::path_below;
 use path_text::{Path, write_token};
 use path_walk::success;
 use serde_json::Value;
@@ -74,7 +75,7 @@ fn last_path(alloc: Global, dir: &Path, rows: &[Row]) -> Result<Path, AllocError
     ensures { IfOk result (λ path. path ≡ last_of dir.now (paths_in dir.now rows.now)) }
 {
     match rows.last() {
-        Some(row) => path_of(alloc, dir, row.names.as_slice()),
+        Some(row) => path_below(alloc, dir, row.names.as_slice()),
         None => dir.copy(alloc),
     }
 }

@@ -4,8 +4,9 @@ ghost use Rattle.inode_tree.specs.Views.{IsKnown};
 ghost use Rattle.inode_tree.specs.declared.draft.EvalStop.TheVariants as stop;
 ghost use Rattle.inode_tree.specs.declared.need.Need.{Need};
 ghost use Rattle.namespace_model.specs.Trees.{Path};
-ghost use Rattle.path_listing.specs.Listed.{IsBegin, IsLookOf, IsPage, IsPageOfChildren, NeedsNode, NeedsPage, NeedsChildren};
+ghost use Rattle.path_listing.specs.Listed.{IsBegin, IsLookOf, IsPage, IsPageOfChildren, NeedsPage, NeedsChildren};
 ghost use Rattle.path_order.specs.Starts.{IsAtFor, IsRoot};
+ghost use Rattle.path_order.specs.Needs.{NeedsNode};
 ghost use Rattle.path_walk.specs.Calls.{GoesOn};
 
 use super::rows::{Page, Wanted, no_page, put_row};

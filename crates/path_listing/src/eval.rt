@@ -16,7 +16,7 @@ use super::questions::refused;
 use super::rows::{Page, Row, Wanted};
 use inode_tree::{Draft, EvalStop, Fresh, NodeId, NodeRef, View};
 use namespace_model::{Code, Op, Request};
-use path_order::Seen;
+use path_order::with_ids;
 use path_walk::{Call, Find, Found, answered, look_up, missing_code, refusal, stop_reply};
 use std::alloc::{AllocError, Global};
 
@@ -181,18 +181,8 @@ fn tell<V: View>(
 fn with_page(reads: Vec<NodeId>, page: &Page) -> Result<Vec<NodeId>, AllocError>
     ensures { IfOk result (λ ids. numbers_of ids.items ≡ numbers_of reads.items ++ (ids_in page.now.way.items ++ ids_in (nodes_in page.now.rows.items))) }
 {
-    let ids = with_way(reads, page.way.as_slice())?;
+    let ids = with_ids(reads, page.way.as_slice())?;
     with_rows(ids, page.rows.as_slice())
-}
-
-fn with_way(reads: Vec<NodeId>, way: &[Seen]) -> Result<Vec<NodeId>, AllocError>
-    ensures { IfOk result (λ ids. numbers_of ids.items ≡ numbers_of reads.items ++ ids_in way.now) }
-{
-    let mut ids = reads;
-    for seen in way {
-        ids.push(seen.id)?;
-    }
-    Ok(ids)
 }
 
 fn with_rows(reads: Vec<NodeId>, rows: &[Row]) -> Result<Vec<NodeId>, AllocError>

@@ -1,5 +1,5 @@
 //! What a listing asks of the nodes that it reads.
-ghost use Rattle.std.specs.Prelude.{◌≡◌, ◌≢◌, ℕ, suc, ◌+◌, ◌<◌, ◌≤◌, [], ◌++◌, length, take, IfOk};
+ghost use Rattle.std.specs.Prelude.{◌≡◌, ◌≢◌, ℕ, suc, ◌+◌, ◌<◌, ◌≤◌, [], length, take, IfOk};
 ghost use Rattle.inode_tree.specs.Inodes.{node_of};
 ghost use Rattle.namespace_model.specs.ListPaths.{is_closed};
 ghost use Rattle.path_listing.specs.Listed.{IsWayWithin, page_closed, path_in, refusal_of, rows_closed, way_closed};
@@ -9,8 +9,8 @@ use acl_check::check;
 use acl_text::Perm;
 use inode_tree::NodeRef;
 use namespace_model::{Caller, Code, Denied, Reply};
-use path_order::Seen;
-use path_text::{Name, Path};
+use path_order::{Seen, path_below};
+use path_text::Path;
 use path_walk::{denial, is_directory, lacks, lacks_above, refuse_if};
 use std::alloc::{AllocError, Global};
 
@@ -131,23 +131,10 @@ fn row_closed(
             alloc,
             Denied {
                 rule: refusal.rule,
-                at: path_of(alloc, dir, row.names.as_slice())?,
+                at: path_below(alloc, dir, row.names.as_slice())?,
                 want,
                 have: refusal.have,
             },
         ))),
     }
-}
-
-// The path of these names below a directory.
-pub(crate) fn path_of(alloc: Global, dir: &Path, names: &[Name]) -> Result<Path, AllocError>
-    requires path { dir.now ≢ [] }
-    ensures { IfOk result (λ whole. whole ≡ dir.now ++ names.now) }
-{
-    let mut whole = dir.copy(alloc)?;
-    for name in names {
-        let longer = whole.child(alloc, name)?;
-        whole = longer;
-    }
-    Ok(whole)
 }

@@ -5,7 +5,7 @@ use Rattle.namespace_model.specs.Pages.{Page, page_of, above}
 use Rattle.namespace_model.specs.Trees.{Path, Tree, is_below}
 use Rattle.namespace_model.proofs.PageLaws.{above_ascends, followed_covers}
 use Rattle.namespace_model.proofs.PageOrder.{Ascends, keys_ascend}
-use Rattle.path_order.specs.Followed.{Answer, IsAnswer, AreAnswers, AreNodesOfAll, IsInOrder, CoverTheirList, PagesCover}
+use Rattle.path_order.specs.Followed.{Answer, IsAnswer, AreAnswers, AreNodesOfAll, IsInOrder, PagesCover}
 use Rattle.path_order.specs.Listings.{items_of}
 use Rattle.path_order.specs.PagesBelow.{below, AreNodesOf}
 

@@ -1,4 +1,8 @@
 pub mod NextPath
+pub mod ChildOrder
+pub mod PathNames
+pub mod SubtreeWalks
+pub mod IdLemmas
 pub mod CursorLemmas
 pub mod PageLemmas
 pub mod WayLemmas

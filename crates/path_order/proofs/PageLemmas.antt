@@ -62,7 +62,7 @@ some_grows old new stripe grows h = by_part (old stripe) refl h
     by_part None e k = absurd (false≢true k)
     by_part (Some part) e k = ap is_some (grows stripe part e)
 
-last_more : (token : Path) (done : List Path) (q : Path) → last_of token (done ++ q ∷ []) ≡ q
+pub last_more : (token : Path) (done : List Path) (q : Path) → last_of token (done ++ q ∷ []) ≡ q
 last_more token [] q = refl
 last_more token (p ∷ done) q = last_more p done q
 
@@ -95,7 +95,7 @@ take_all n [] h = take_none n
 take_all zero (x ∷ xs) h = absurd (omega arith)
 take_all (suc n) (x ∷ xs) h = ap (λ l. x ∷ l) (take_all n xs (omega arith))
 
-in_front : (n : ℕ) (done : List Path) (q : Path) (rest : List Path) → length done < n → Among q (take n (done ++ q ∷ rest))
+pub in_front : (n : ℕ) (done : List Path) (q : Path) (rest : List Path) → length done < n → Among q (take n (done ++ q ∷ rest))
 in_front zero done q rest h = absurd (omega arith)
 in_front (suc n) [] q rest h = inl refl
 in_front (suc n) (p ∷ done) q rest h = inr (in_front n done q rest (omega arith))

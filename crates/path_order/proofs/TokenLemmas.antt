@@ -32,12 +32,12 @@ below_behind t dir q h =
     let names = below_names dir q (keys_among t (is_below dir) q h).0 in
     subst (λ r. Before dir r) (sym names.2) (front_first dir names.0 names.1)
 
-none_among : (xs : List Path) → ((q : Path) → Among q xs → ⊥) → xs ≡ []
+pub none_among : (xs : List Path) → ((q : Path) → Among q xs → ⊥) → xs ≡ []
 none_among [] h = refl
 none_among (x ∷ xs) h = absurd (h x (inl refl))
 
 -- nothing is on the way to a token that isn't below the path
-nothing_way : (t : Tree) (dir token : Path) → is_prefix dir token ≡ false → on_the_way t (is_below dir) (Some token) ≡ []
+pub nothing_way : (t : Tree) (dir token : Path) → is_prefix dir token ≡ false → on_the_way t (is_below dir) (Some token) ≡ []
 nothing_way t dir token apart = none_among (on_the_way t (is_below dir) (Some token)) (λ q h.
     let parts = both (is_below dir q) (is_prefix q token) (keys_among t (λ r. is_below dir r && is_prefix r token) q h).0 in
     let names = below_names dir q parts.0 in

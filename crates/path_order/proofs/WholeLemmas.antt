@@ -7,13 +7,13 @@ use Rattle.std.proofs.lemmas.Option.{same_Some}
 use Rattle.std.specs.Cmp.{unsigned_Decides}
 use Rattle.path_text.specs.Paths.{is_prefix}
 use Rattle.namespace_model.specs.Locality.{Among}
-use Rattle.namespace_model.specs.Pages.{page_of, above}
-use Rattle.namespace_model.specs.Trees.{Path, Tree, at, subtree}
+use Rattle.namespace_model.specs.Pages.{above}
+use Rattle.namespace_model.specs.Trees.{Path, Tree, subtree}
 use Rattle.namespace_model.proofs.PageOrder.{among_take, keys_ascend}
 use Rattle.inode_tree.specs.declared.id.NodeId.{NodeId}
 use Rattle.inode_tree.specs.declared.need.Need.{Need}
 use Rattle.inode_tree.specs.Inodes.{BareInode, node_of}
-use Rattle.inode_tree.specs.Parts.{Parts, inode_at}
+use Rattle.inode_tree.specs.Parts.{Parts}
 use Rattle.inode_tree.specs.Promises.{numbers_of, is_one_of}
 use Rattle.inode_tree.specs.Stands.{Stands}
 use Rattle.inode_tree.specs.Views.{Held, Shown, Agrees, Grows}

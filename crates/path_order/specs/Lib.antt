@@ -1,3 +1,5 @@
+pub mod Needs
+pub mod Children
 pub mod Cursors
 pub mod PagesBelow
 pub mod Starts

@@ -1,16 +1,15 @@
 -- A page of all that is below a directory, by the model's definitions.
-use Rattle.std.specs.Prelude.{◌≡◌, ℕ, ◌%◌, ◌<◌, true, false, List, ◌++◌, Vec, Option, Some, option_map}
-use Rattle.lock_core.specs.declared.object.LockMode.TheVariants.{Shared}
-use Rattle.namespace_model.specs.Locality.{Among}
+use Rattle.std.specs.Prelude.{◌≡◌, ℕ, true, List, ◌++◌, Vec, Option, Some, option_map}
 use Rattle.inode_tree.specs.declared.need.Need.{Need}
 use Rattle.namespace_model.specs.ListPaths.{list_page}
 use Rattle.namespace_model.specs.Pages.{page_of, above, on_the_way}
 use Rattle.namespace_model.specs.Trees.{Path, Tree, is_below}
-use Rattle.inode_tree.specs.Parts.{Parts, follow}
+use Rattle.inode_tree.specs.Parts.{Parts}
 use Rattle.inode_tree.specs.Stands.{Stands}
-use Rattle.inode_tree.specs.Views.{Held, Shown, Agrees, covers}
+use Rattle.inode_tree.specs.Views.{Held, Shown, Agrees}
 use Rattle.path_order.specs.declared.listing.Listing.{Listing}
 use Rattle.path_order.specs.PagesBelow.{below, ids_in, AreApart, AreNodesOf, AreHeld}
+use Rattle.path_order.specs.Needs.{NeedsOneOf}
 
 abbrev pub items_of : {A B : Type 0} → Option (Vec A B) → Option (List A)
 items_of o = option_map (λ v. v.items) o
@@ -34,9 +33,5 @@ pub record IsListing (held : Held) (shown : Shown) (dir : Path) (token : Option 
   pub looked_way : AreHeld held shown l.way.items
 
 -- a stripe that isn't held, in which a node lies that the listing reads
-pub record NeedsListing (held : Held) (shown : Shown) (dir : Path) (token : Option Path) (max : ℕ) (n : Need) : Type 0 where
-  pub within : n.stripe < 64
-  pub asks : n.mode ≡ Shared
-  pub lacks : covers (held n.stripe) Shared ≡ false
-  pub needed : (parts : Parts) (t : Tree) → Stands parts t → Agrees shown parts
-      → (q : Path) × ((id : ℕ) × (Among q (on_the_way t (is_below dir) token ++ (list_page t dir true token max).paths) × ((follow parts 0 q ≡ Some id) × (n.stripe ≡ id % 64))))
+abbrev pub NeedsListing : Held → Shown → Path → Option Path → ℕ → Need → Type 0
+NeedsListing held shown dir token max n = NeedsOneOf held shown (λ t. on_the_way t (is_below dir) token ++ (list_page t dir true token max).paths) n

@@ -1,7 +1,5 @@
 -- Pages of what is below a path, as a walk gives them.
-use Rattle.std.specs.Prelude.{◌≡◌, ℕ, ◌%◌, ◌<◌, true, false, List, [], ◌∷◌, map, take, Some, None, if◌then◌else◌}
-use Rattle.lock_core.specs.declared.object.LockMode.TheVariants.{Shared}
-use Rattle.namespace_model.specs.Locality.{Among}
+use Rattle.std.specs.Prelude.{◌≡◌, ℕ, true, false, List, [], ◌∷◌, map, take, Some, None, if◌then◌else◌}
 use Rattle.namespace_model.specs.Pages.{page_of, above}
 use Rattle.namespace_model.specs.Trees.{Path, Tree, at, keys_where, is_below}
 use Rattle.inode_tree.specs.declared.need.Need.{Need}
@@ -9,12 +7,13 @@ use Rattle.inode_tree.specs.Inodes.{node_of}
 use Rattle.inode_tree.specs.Parts.{Parts, inode_at, follow}
 use Rattle.inode_tree.specs.Promises.{is_one_of}
 use Rattle.inode_tree.specs.Stands.{Stands}
-use Rattle.inode_tree.specs.Views.{Held, Shown, Agrees, covers}
+use Rattle.inode_tree.specs.Views.{Held, Shown, Agrees}
 use Rattle.path_walk.specs.Visits.{IsHeldAndShown}
 use Rattle.path_order.specs.declared.cursor.Cursor.{Cursor}
 use Rattle.path_order.specs.declared.cursor.Seen.{Seen}
 use Rattle.path_order.specs.declared.paging.Page.{Page}
 use Rattle.path_order.specs.Cursors.{place, IsCursor}
+use Rattle.path_order.specs.Needs.{NeedsOneOf}
 
 -- what is below a path, in path order
 abbrev pub below : Tree → Path → List Path
@@ -63,9 +62,5 @@ pub record IsPageBelow (held : Held) (shown : Shown) (root token : Path) (max : 
   pub looked : AreHeld held shown page.seen.items
 
 -- a stripe that isn't held, in which a node of the page lies
-pub record NeedsOfPage (held : Held) (shown : Shown) (root token : Path) (max : ℕ) (n : Need) : Type 0 where
-  pub within : n.stripe < 64
-  pub asks : n.mode ≡ Shared
-  pub lacks : covers (held n.stripe) Shared ≡ false
-  pub needed : (parts : Parts) (t : Tree) → Stands parts t → Agrees shown parts
-      → (q : Path) × ((id : ℕ) × (Among q (take max (above (Some token) (below t root))) × ((follow parts 0 q ≡ Some id) × (n.stripe ≡ id % 64))))
+abbrev pub NeedsOfPage : Held → Shown → Path → Path → ℕ → Need → Type 0
+NeedsOfPage held shown root token max n = NeedsOneOf held shown (λ t. take max (above (Some token) (below t root))) n

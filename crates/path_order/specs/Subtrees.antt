@@ -1,17 +1,16 @@
 -- A node and all that is below it, node by node.
-use Rattle.std.specs.Prelude.{◌≡◌, ℕ, ◌%◌, ◌<◌, false, ◌∷◌, Some}
-use Rattle.lock_core.specs.declared.object.LockMode.TheVariants.{Shared}
-use Rattle.namespace_model.specs.Locality.{Among}
+use Rattle.std.specs.Prelude.{◌≡◌, ◌∷◌}
 use Rattle.namespace_model.specs.Trees.{Path, Tree, subtree}
 use Rattle.inode_tree.specs.declared.need.Need.{Need}
 use Rattle.inode_tree.specs.Footprints.{ids_of}
-use Rattle.inode_tree.specs.Parts.{Parts, follow}
+use Rattle.inode_tree.specs.Parts.{Parts}
 use Rattle.inode_tree.specs.Stands.{Stands}
-use Rattle.inode_tree.specs.Views.{Held, Shown, Agrees, covers}
+use Rattle.inode_tree.specs.Views.{Held, Shown, Agrees}
 use Rattle.path_order.specs.declared.cursor.Seen.{Seen}
 use Rattle.path_order.specs.declared.whole.Subtree.{Subtree}
 use Rattle.path_order.specs.Cursors.{IsAt}
 use Rattle.path_order.specs.PagesBelow.{below, ids_in, AreApart, AreNodesOf, AreHeld}
+use Rattle.path_order.specs.Needs.{NeedsOneOf}
 
 -- the node of p, for all parts that stand for a tree and agree with what was shown
 abbrev pub IsTop : Shown → Path → Seen → Type 0
@@ -26,9 +25,5 @@ pub record IsSubtree (held : Held) (shown : Shown) (p : Path) (s : Subtree) : Ty
   pub looked : AreHeld held shown s.below.items
 
 -- a stripe that isn't held, in which a node below p lies
-pub record NeedsSubtree (held : Held) (shown : Shown) (p : Path) (n : Need) : Type 0 where
-  pub within : n.stripe < 64
-  pub asks : n.mode ≡ Shared
-  pub lacks : covers (held n.stripe) Shared ≡ false
-  pub needed : (parts : Parts) (t : Tree) → Stands parts t → Agrees shown parts
-      → (q : Path) × ((id : ℕ) × (Among q (below t p) × ((follow parts 0 q ≡ Some id) × (n.stripe ≡ id % 64))))
+abbrev pub NeedsSubtree : Held → Shown → Path → Need → Type 0
+NeedsSubtree held shown p n = NeedsOneOf held shown (λ t. below t p) n

@@ -16,16 +16,20 @@
 
 mod begin;
 mod cursor;
+mod ids;
 mod laws;
 mod listing;
+mod names;
 mod paging;
 mod token;
 mod whole;
 
 pub use begin::{Start, behind};
 pub use cursor::{Cursor, Seen};
+pub use ids::with_ids;
 pub use laws::pages_cover_their_list;
 pub use listing::{Listing, list_below};
+pub use names::path_below;
 pub use paging::{Page, next_page};
 pub use token::start_at;
 pub use whole::{Subtree, walk_subtree};

@@ -7,28 +7,27 @@ use Rattle.path_text.specs.Paths.{path_cmp}
 use Rattle.namespace_model.specs.declared.reply.Reply.{Reply}
 use Rattle.namespace_model.specs.declared.request.Entry.{Entry}
 use Rattle.namespace_model.specs.declared.request.Request.{Request}
-use Rattle.namespace_model.specs.Effects.{Put, put_by, Effect}
+use Rattle.namespace_model.specs.Effects.{Effect}
 use Rattle.namespace_model.specs.Locality.{Among}
 use Rattle.namespace_model.specs.Outcomes.{Outcome, once, without_repeats}
 use Rattle.namespace_model.specs.Sound.{IsSound}
-use Rattle.namespace_model.specs.Step.{acts, outcome, with_close}
+use Rattle.namespace_model.specs.Step.{outcome, with_close}
 use Rattle.namespace_model.specs.Trees.{Path, Tree}
 use Rattle.namespace_model.proofs.Lookups.{same_path}
 use Rattle.namespace_model.proofs.PageOrder.{before_itself, Ascends}
 use Rattle.namespace_model.proofs.StepLocality.{among_once}
-use Rattle.inode_tree.specs.declared.change.Change.TheVariants as change
 use Rattle.inode_tree.specs.declared.change.Edit.{Edit}
 use Rattle.inode_tree.specs.declared.draft.Draft.{Draft}
 use Rattle.inode_tree.specs.declared.fresh.Fresh.{Fresh}
 use Rattle.inode_tree.specs.declared.id.NodeId.{NodeId}
 use Rattle.inode_tree.specs.declared.need.Need.{Need}
 use Rattle.inode_tree.specs.declared.placed.Placed.{Placed}
-use Rattle.inode_tree.specs.After.{Turn, stays_at, turns, turns_by, turns_on, turned, inode_with, with_id, known, drawn_ids, outcome_on}
+use Rattle.inode_tree.specs.After.{Turn, stays_at, turns, turns_by, turns_on, turned, with_id, known, drawn_ids, outcome_on}
 use Rattle.inode_tree.specs.Changes.{edited as inode_edited}
 use Rattle.inode_tree.specs.Drawing.{next_ids}
 use Rattle.inode_tree.specs.Footprints.{ids_of, written_ids}
-use Rattle.inode_tree.specs.Inodes.{BareInode, links_in}
-use Rattle.inode_tree.specs.Parts.{Parts, inode_at, follow, id_at}
+use Rattle.inode_tree.specs.Inodes.{BareInode}
+use Rattle.inode_tree.specs.Parts.{Parts, inode_at, id_at}
 use Rattle.inode_tree.specs.Promises.{IsEntryOf, numbers_of, is_one_of, IsOfStep, IsDraft, IsNeed}
 use Rattle.inode_tree.specs.Stands.{Stands}
 use Rattle.inode_tree.specs.Views.{Held, Shown, ArePossible}
@@ -43,6 +42,7 @@ use Rattle.path_walk.specs.Holds.{AreHeldToWrite, LacksStripe}
 use Rattle.path_walk.specs.Visits.{AreLookedAt}
 use Rattle.path_walk.proofs.HoldLemmas.{written_need}
 use Rattle.path_walk.proofs.SetLemmas.{one_has, ids_once, once_among}
+use Rattle.path_walk.proofs.Truths.{either_true}
 
 -- ---- nodes of the list
 
@@ -68,10 +68,6 @@ edit_has : (y : NodeEdit) (zs : List NodeEdit) → In y zs → is_one_of y.id.0 
 edit_has y [] h = absurd h
 edit_has y (z ∷ zs) (inl e) = ap (λ (w : NodeEdit). (w.id.0 == y.id.0) || is_one_of y.id.0 (numbers_of (ids_in (edits_by zs)))) (sym e) ∙ ap (λ b. b || is_one_of y.id.0 (numbers_of (ids_in (edits_by zs)))) (number_same y.id.0)
 edit_has y (z ∷ zs) (inr h) = ap (λ b. (z.id.0 == y.id.0) || b) (edit_has y zs h) ∙ either_true (z.id.0 == y.id.0)
-  where
-    either_true : (b : Bool) → (b || true) ≡ true
-    either_true true = refl
-    either_true false = refl
 
 -- ---- what is put
 

@@ -1,5 +1,5 @@
 -- What the answers to a call owe: want of memory, a way that ends before the parent, a stripe that isn't held, and a node that was found.
-use Rattle.std.proofs.Common.{◌≡◌, ℕ, List, Result, Ok, Err, refl, ap, ◌∙◌}
+use Rattle.std.proofs.Common.{◌≡◌, List, Ok, Err, refl, ap, ◌∙◌}
 use Rattle.namespace_model.specs.declared.caller.Caller.{Caller}
 use Rattle.namespace_model.specs.declared.code.Code.{Code}
 use Rattle.namespace_model.specs.declared.reply.Reply.{Reply}
@@ -63,15 +63,31 @@ walk_need held shown call caller path code n on walks =
 
 -- ---- a look at the node of the call's path
 
+-- the step of a call looks at the node of the call's path, and goes on with it on its tree
+abbrev pub FindsAs : Call → (Tree → Entry → Node → Outcome) → Type 0
+FindsAs call some = (t : Tree) (e : Entry) → e.request ≡ call.request.now → acts t e e.request.op ≡ looks.found t e call.path.now (some t e)
+
 -- the draft of an answer by what was found
+pub found_answer : (held : Held) (shown : Shown) (call : Call) (some : Tree → Entry → Node → Outcome) (f : Find) (reply : Reply) (d : Draft) → IsCall call → FindsAs call some
+    → IsFindFor shown call.caller.now call.path.now f → AreLookedAt held shown f.ids.items → IsAnswered call.request.now.close reply f.ids.items d
+    → ((t : Tree) (e : Entry) → e.request ≡ call.request.now → e.moment ≡ call.moment → found_outcome call.path.now (some t e) f.found ≡ answered reply)
+    → Answers held shown call (Ok d)
+found_answer held shown call some f reply d is step finds looked answers says =
+    look_draft held shown call.request.now call.moment call.fresh call.caller.now call.path.now some f reply d is.sound is.by step finds looked answers says
+
+-- a stripe on the way to the node that isn't held
+pub found_lacks : (held : Held) (shown : Shown) (call : Call) (some : Tree → Entry → Node → Outcome) (n : Need) → IsCall call → FindsAs call some → IsNeedOfFind held shown call.caller.now call.path.now n
+    → Answers held shown call (Err (stop.Need n))
+found_lacks held shown call some n is step before = look_need held shown call.request.now call.moment call.fresh call.caller.now call.path.now some n is.by step before
+
+-- the same where what comes of the node is the same on every tree
 pub look_answer : (held : Held) (shown : Shown) (call : Call) (some : Entry → Node → Outcome) (f : Find) (reply : Reply) (d : Draft) → IsCall call → LooksAs call some
     → IsFindFor shown call.caller.now call.path.now f → AreLookedAt held shown f.ids.items → IsAnswered call.request.now.close reply f.ids.items d
     → ((e : Entry) → e.request ≡ call.request.now → e.moment ≡ call.moment → found_outcome call.path.now (some e) f.found ≡ answered reply)
     → Answers held shown call (Ok d)
 look_answer held shown call some f reply d is step finds looked answers says =
-    look_draft held shown call.request.now call.moment call.fresh call.caller.now call.path.now some f reply d is.sound is.by step finds looked answers says
+    found_answer held shown call (λ t e. some e) f reply d is step finds looked answers (λ t e asks comes. says e asks comes)
 
--- a stripe on the way to the node that isn't held
 pub look_lacks : (held : Held) (shown : Shown) (call : Call) (some : Entry → Node → Outcome) (n : Need) → IsCall call → LooksAs call some → IsNeedOfFind held shown call.caller.now call.path.now n
     → Answers held shown call (Err (stop.Need n))
-look_lacks held shown call some n is step before = look_need held shown call.request.now call.moment call.fresh call.caller.now call.path.now some n is.by step before
+look_lacks held shown call some n is step before = found_lacks held shown call (λ t e. some e) n is step before

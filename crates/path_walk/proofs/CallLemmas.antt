@@ -1,5 +1,5 @@
 -- What a view that went on keeps, and what may be carried over to it.
-use Rattle.std.proofs.Common.{◌≡◌, ℕ, ◌%◌, List, Some, ap, ◌∙◌}
+use Rattle.std.proofs.Common.{ℕ, ◌%◌, List, ap, ◌∙◌}
 use Rattle.lock_core.specs.declared.object.LockMode.TheVariants.{Shared}
 use Rattle.inode_tree.specs.declared.id.NodeId.{NodeId}
 use Rattle.inode_tree.specs.declared.need.Need.{Need}

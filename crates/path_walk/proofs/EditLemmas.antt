@@ -1,9 +1,7 @@
 -- A draft by which nodes are edited in their places is that of its step.
-use Rattle.std.proofs.Common.{◌≡◌, inl, inr, ℕ, ◌==◌, Bool, true, false, cond, ◌||◌, List, [], ◌∷◌, ◌++◌, map, length, Option, Some, None, option_map, unwrap_or, Ok, refl, ap, sym, subst, ◌∙◌, append-nil}
+use Rattle.std.proofs.Common.{◌≡◌, ℕ, ◌==◌, Bool, true, false, cond, List, [], ◌∷◌, ◌++◌, map, length, Option, Some, None, option_map, unwrap_or, Ok, refl, ap, sym, ◌∙◌, append-nil}
 use Rattle.std.specs.Cmp.{unsigned_Decides}
-use Rattle.lock_core.specs.declared.object.LockMode.TheVariants as mode
 use Rattle.namespace_model.specs.declared.caller.Caller.{Caller}
-use Rattle.namespace_model.specs.declared.op.Kind.TheVariants as kinds
 use Rattle.namespace_model.specs.declared.reply.Reply.{Reply}
 use Rattle.namespace_model.specs.declared.request.Entry.{Entry}
 use Rattle.namespace_model.specs.declared.request.Request.{Request}
@@ -13,10 +11,9 @@ use Rattle.namespace_model.specs.Nodes.{Node, kind_of, kind_of_content}
 use Rattle.namespace_model.specs.Outcomes.{Outcome, answered, reading, edited, once, without_repeats}
 use Rattle.namespace_model.specs.Refusals.{caller_of, nobody}
 use Rattle.namespace_model.specs.Sound.{IsSound}
-use Rattle.namespace_model.specs.Step.{acts, outcome, with_close, closing}
+use Rattle.namespace_model.specs.Step.{acts, outcome, with_close}
 use Rattle.namespace_model.specs.Trees.{Path, Tree}
 use Rattle.namespace_model.proofs.Lookups.{same_path}
-use Rattle.inode_tree.specs.declared.change.Change.{Change}
 use Rattle.inode_tree.specs.declared.change.Change.TheVariants as change
 use Rattle.inode_tree.specs.declared.change.Edit.{Edit}
 use Rattle.inode_tree.specs.declared.change.Edit.TheVariants as edit
@@ -26,17 +23,16 @@ use Rattle.inode_tree.specs.declared.id.NodeId.{NodeId}
 use Rattle.inode_tree.specs.declared.meta.Meta.{Meta}
 use Rattle.inode_tree.specs.declared.need.Need.{Need}
 use Rattle.inode_tree.specs.declared.placed.Placed.{Placed}
-use Rattle.inode_tree.specs.After.{Turn, stays_at, turns_by, turns_on, inode_with, meta_of, content_with, with_id, known, drawn_ids, outcome_on}
+use Rattle.inode_tree.specs.After.{stays_at, turns_by, turns_on, inode_with, meta_of, content_with, with_id, known, drawn_ids, outcome_on}
 use Rattle.file_data.specs.FileRecord.{FileRecord, file_of, stage_answer, staged_with, flush_answer, flushed}
 use Rattle.namespace_model.specs.Nodes as model
 use Rattle.inode_tree.specs.Changes.{edited as inode_edited, asked_by, is_meta_of, where_allowed, staged_in, flushed_in}
 use Rattle.inode_tree.specs.Drawing.{next_ids}
 use Rattle.inode_tree.specs.Footprints.{ids_of, written_ids}
 use Rattle.inode_tree.specs.Inodes.{BareContent, directory, file, BareInode, links_in, node_content, node_of}
-use Rattle.inode_tree.specs.Parts.{Parts, inode_at, follow, id_at}
+use Rattle.inode_tree.specs.Parts.{Parts, inode_at, id_at}
 use Rattle.inode_tree.specs.Promises.{IsEntryOf, numbers_of, is_one_of, IsOfStep, IsDraft, IsNeed}
-use Rattle.inode_tree.specs.Stands.{Stands}
-use Rattle.inode_tree.specs.Views.{Held, Shown, Agrees, ArePossible}
+use Rattle.inode_tree.specs.Views.{Held, Shown, ArePossible}
 use Rattle.inode_tree.proofs.FrameLemmas.{short_id}
 use Rattle.inode_tree.proofs.IndexLemmas.{reached_short}
 use Rattle.inode_tree.proofs.PromiseLemmas.{of_step, outcome_there, changed_by}

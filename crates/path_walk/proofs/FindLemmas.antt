@@ -1,5 +1,5 @@
 -- A look at the node of a path, behind its parent.
-use Rattle.std.proofs.Common.{◌≡◌, ◌≢◌, inl, inr, ℕ, ◌+◌, ◌-◌, ◌%◌, ◌==◌, ◌<◌, Bool, true, false, ◌||◌, List, [], ◌∷◌, ◌++◌, map, length, get_or, Option, Some, None, IsSome, Result, Ok, Err, IfOk, refl, ap, sym, subst, ◌∙◌, append-nil, arith}
+use Rattle.std.proofs.Common.{◌≡◌, ◌≢◌, ℕ, ◌%◌, ◌==◌, ◌<◌, Bool, true, false, ◌||◌, List, [], ◌∷◌, ◌++◌, map, Option, Some, None, IsSome, Result, Ok, Err, IfOk, refl, ap, sym, subst, ◌∙◌, append-nil}
 use Rattle.std.proofs.lemmas.Bool.{false≢true}
 use Rattle.std.proofs.lemmas.Option.{same_Some}
 use Rattle.std.proofs.Math.Nat.{mod-lt}
@@ -21,7 +21,7 @@ use Rattle.inode_tree.specs.Index.{IsIndex}
 use Rattle.inode_tree.specs.Parts.{Parts, inode_at, child_of, follow, id_at}
 use Rattle.inode_tree.specs.Promises.{numbers_of}
 use Rattle.inode_tree.specs.Stands.{Stands}
-use Rattle.inode_tree.specs.Views.{Held, Shown, Agrees, Grows, IsKnown, covers}
+use Rattle.inode_tree.specs.Views.{Held, Shown, Agrees, IsKnown, covers}
 use Rattle.inode_tree.proofs.FrameLemmas.{short_id}
 use Rattle.inode_tree.proofs.IndexLemmas.{index_from_stands, reached_short}
 use Rattle.path_walk.specs.declared.parent.Parent.{Parent}

@@ -20,6 +20,7 @@ use Rattle.inode_tree.proofs.PromiseLemmas.{lies_one}
 use Rattle.path_walk.specs.Holds.{AreHeldToWrite, LacksStripe}
 use Rattle.path_walk.proofs.SetLemmas.{one_lies}
 use Rattle.path_walk.proofs.TrailLemmas.{numbers-append, one_of_append}
+use Rattle.path_walk.proofs.Truths.{either_true}
 
 -- what covers an exclusive hold is one
 pub exclusive_is : (m : LockMode) → covers m mode.Exclusive ≡ true → m ≡ mode.Exclusive
@@ -39,10 +40,6 @@ held_more held ids one before here id h =
     by_first : (b : Bool) → is_one_of id (numbers_of ids) ≡ b → (b || ((one.0 == id) || false)) ≡ true → held (id % 64) ≡ mode.Exclusive
     by_first true e k = before id e
     by_first false e k = by_last (one.0 == id) refl k
-
-either_true : (b : Bool) → (b || true) ≡ true
-either_true true = refl
-either_true false = refl
 
 lies_at : (ids : List NodeId) (i : ℕ) (none : NodeId) → i < length ids → lies_in ((get_or ids i none).0 % 64) (numbers_of ids) ≡ true
 lies_at [] i none h = absurd (omega arith)

@@ -1,4 +1,6 @@
+pub mod Truths
 pub mod ChildLemmas
+pub mod BareLemmas
 pub mod TrailLemmas
 pub mod CallLemmas
 pub mod ReadLemmas

@@ -74,28 +74,28 @@ the_caller : (e : Entry) (request : Request) (caller : Caller) → e.request ≡
 the_caller e request caller asks by = ap (λ (r : Request). unwrap_or r.caller nobody) asks ∙ ap (λ c. unwrap_or c nobody) by
 
 -- An answer by what was found at a path is a draft, where the step looks at the node of the path and this is its answer.
-pub look_draft : (held : Held) (shown : Shown) (request : Request) (moment : ℕ) (fresh : Fresh) (caller : Caller) (path : Path) (some : Entry → Node → Outcome) (f : Find) (reply : Reply) (d : Draft)
+pub look_draft : (held : Held) (shown : Shown) (request : Request) (moment : ℕ) (fresh : Fresh) (caller : Caller) (path : Path) (some : Tree → Entry → Node → Outcome) (f : Find) (reply : Reply) (d : Draft)
     → IsSound request → request.caller ≡ Some caller
-    → ((t : Tree) (e : Entry) → e.request ≡ request → acts t e e.request.op ≡ looks.found t e path (some e))
+    → ((t : Tree) (e : Entry) → e.request ≡ request → acts t e e.request.op ≡ looks.found t e path (some t e))
     → IsFindFor shown caller path f → AreLookedAt held shown f.ids.items → IsAnswered request.close reply f.ids.items d
-    → ((e : Entry) → e.request ≡ request → e.moment ≡ moment → found_outcome path (some e) f.found ≡ answered reply)
+    → ((t : Tree) (e : Entry) → e.request ≡ request → e.moment ≡ moment → found_outcome path (some t e) f.found ≡ answered reply)
     → IsDraft held shown request moment fresh d
 look_draft held shown request moment fresh caller path some f reply d sound by step finds looked is says =
     answer_is_draft held shown request moment fresh reply f.ids.items d sound looked is (λ parts t e possible of.
     let found = finds parts t possible.stands possible.agrees in (
       read_to t caller path,
-      step t e.entry of.asks ∙ found_is t e.entry path (some e.entry) caller (the_caller e.entry request caller of.asks by) f.found found.found_is
-          ∙ ap (reading (read_to t caller path)) (says e.entry of.asks of.comes_at),
+      step t e.entry of.asks ∙ found_is t e.entry path (some t e.entry) caller (the_caller e.entry request caller of.asks by) f.found found.found_is
+          ∙ ap (reading (read_to t caller path)) (says t e.entry of.asks of.comes_at),
       λ id. ap (λ (l : List ℕ). is_one_of id l) found.read,
     ))
 
 -- what is read on the way to a node of a path is read by a step that looks at it
-pub look_need : (held : Held) (shown : Shown) (request : Request) (moment : ℕ) (fresh : Fresh) (caller : Caller) (path : Path) (some : Entry → Node → Outcome) (n : Need)
-    → request.caller ≡ Some caller → ((t : Tree) (e : Entry) → e.request ≡ request → acts t e e.request.op ≡ looks.found t e path (some e))
+pub look_need : (held : Held) (shown : Shown) (request : Request) (moment : ℕ) (fresh : Fresh) (caller : Caller) (path : Path) (some : Tree → Entry → Node → Outcome) (n : Need)
+    → request.caller ≡ Some caller → ((t : Tree) (e : Entry) → e.request ≡ request → acts t e e.request.op ≡ looks.found t e path (some t e))
     → IsNeedOfFind held shown caller path n → IsNeed held shown request moment fresh n
 look_need held shown request moment fresh caller path some n by step before =
     read_need held shown request moment fresh n before.within before.asks before.lacks (λ parts t e possible of.
-    let found = found_there t e.entry path (some e.entry) caller (the_caller e.entry request caller of.asks by) in (
+    let found = found_there t e.entry path (some t e.entry) caller (the_caller e.entry request caller of.asks by) in (
       read_to t caller path,
       outcome_reads t e (read_to t caller path) found.0 (step t e.entry of.asks ∙ found.1),
       before.needed parts t possible.stands possible.agrees,

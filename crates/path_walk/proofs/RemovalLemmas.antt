@@ -1,5 +1,5 @@
 -- The draft by which a node and all that stands below it go is that of its step.
-use Rattle.std.proofs.Common.{◌≡◌, inl, inr, ℕ, suc, ◌+◌, ◌==◌, Bool, true, false, cond, ◌||◌, List, [], ◌∷◌, ◌++◌, map, length, Option, Some, None, option_map, is_some, IsSome, refl, ap, sym, ◌∙◌, append-nil, arith}
+use Rattle.std.proofs.Common.{◌≡◌, inl, inr, ℕ, suc, ◌+◌, ◌==◌, Bool, true, false, cond, ◌||◌, List, [], ◌∷◌, ◌++◌, map, length, Option, Some, None, option_map, IsSome, refl, ap, sym, ◌∙◌, append-nil, arith}
 use Rattle.std.proofs.lemmas.Bool.{false≢true}
 use Rattle.std.proofs.lemmas.Option.{same_Some}
 use Rattle.std.specs.Cmp.{unsigned_Decides}
@@ -39,7 +39,7 @@ use Rattle.inode_tree.specs.Promises.{IsEntryOf, numbers_of, is_one_of, IsOfStep
 use Rattle.inode_tree.specs.Stands.{Stands}
 use Rattle.inode_tree.specs.Views.{Held, Shown, ArePossible}
 use Rattle.inode_tree.proofs.FrameLemmas.{short_id}
-use Rattle.inode_tree.proofs.IndexLemmas.{index_from_stands, reached_short, cut_follow}
+use Rattle.inode_tree.proofs.IndexLemmas.{reached_short, cut_follow}
 use Rattle.inode_tree.proofs.LinkLemmas.{last_link, last-taken, get-relinked, key_tells, key_same}
 use Rattle.inode_tree.proofs.MapLemmas.{name_cmp-IsAntisymmetric}
 use Rattle.inode_tree.proofs.PairLemmas.{once_is_once, known_has, known_is, known_once}

@@ -15,10 +15,7 @@ use Rattle.inode_tree.specs.Promises.{is_one_of}
 use Rattle.inode_tree.proofs.TurnLemmas.{Within}
 use Rattle.inode_tree.proofs.PairLemmas.{known_has, known_is}
 use Rattle.inode_tree.proofs.PromiseLemmas.{lies_one}
-
-either_true : (b : Bool) → (b || true) ≡ true
-either_true true = refl
-either_true false = refl
+use Rattle.path_walk.proofs.Truths.{either_true, same_tests}
 
 -- an id is one of these where one of the paths has it
 pub one_has : (xs : List (Path × ℕ)) (x : Path × ℕ) → Within x xs → is_one_of x.1 (map (λ (y : Path × ℕ). y.1) xs) ≡ true
@@ -34,11 +31,6 @@ has_one (y ∷ ys) id e = by_first (y.1 == id) refl e (has_one ys id)
         → (is_one_of id (map (λ (w : Path × ℕ). w.1) ys) ≡ true → (p : Path) × Within (p, id) ys) → (p : Path) × Within (p, id) (y ∷ ys)
     by_first true same h more = (y.0, inl (ap (λ k. (y.0, k)) (sym ((unsigned_Decides y.1 id).0 same))))
     by_first false other h more = let rest = more h in (rest.0, inr rest.1)
-
-same_tests : (a b : Bool) → (a ≡ true → b ≡ true) → (b ≡ true → a ≡ true) → a ≡ b
-same_tests true b to from = sym (to refl)
-same_tests false false to from = refl
-same_tests false true to from = from refl
 
 -- paths that are the same as sets have the same ids
 pub same_ids : (parts : Parts) (ps qs : List Path) → ((p : Path) → Among p ps → Among p qs) → ((p : Path) → Among p qs → Among p ps) → (id : ℕ) → is_one_of id (ids_of parts ps) ≡ is_one_of id (ids_of parts qs)

@@ -1,5 +1,5 @@
 -- The answer of a call where nodes are to be edited that were found.
-use Rattle.std.proofs.Common.{◌≡◌, List, [], ◌∷◌, Ok, Err}
+use Rattle.std.proofs.Common.{List, [], ◌∷◌, Ok, Err}
 use Rattle.namespace_model.specs.declared.reply.Reply.{Reply}
 use Rattle.namespace_model.specs.Outcomes.{Outcome}
 use Rattle.namespace_model.specs.Trees.{Path}

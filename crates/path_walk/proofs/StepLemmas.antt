@@ -9,12 +9,11 @@ use Rattle.namespace_model.specs.Trees.{Path, Tree, parent}
 use Rattle.namespace_model.proofs.Prefixes.{parent_of_child}
 use Rattle.inode_tree.specs.declared.id.NodeId.{NodeId}
 use Rattle.inode_tree.specs.declared.need.Need.{Need}
-use Rattle.inode_tree.specs.Inodes.{BareInode}
 use Rattle.inode_tree.specs.Footprints.{ids_of, lies_in}
 use Rattle.inode_tree.specs.Parts.{Parts, inode_at, follow, child_of}
 use Rattle.inode_tree.specs.Promises.{numbers_of, is_one_of}
 use Rattle.inode_tree.specs.Stands.{Stands}
-use Rattle.inode_tree.specs.Views.{Held, Shown, Agrees, Grows, IsKnown, covers}
+use Rattle.inode_tree.specs.Views.{Held, Shown, Agrees, IsKnown, covers}
 use Rattle.path_walk.specs.declared.stop.Base.{Base}
 use Rattle.path_walk.specs.declared.stop.End.{End}
 use Rattle.path_walk.specs.declared.stop.End.TheVariants as end

@@ -1,5 +1,5 @@
 -- A shared hold is needed of a stripe in which a node lies that is read or written.
-use Rattle.std.proofs.Common.{◌≡◌, ◌⊎◌, inl, inr, ℕ, ◌%◌, ◌<◌, Bool, true, false, ◌||◌, List, [], ◌∷◌, ◌++◌, refl, ap, sym, subst, ◌∙◌}
+use Rattle.std.proofs.Common.{◌≡◌, ◌⊎◌, inl, inr, ℕ, ◌<◌, true, false, ◌||◌, List, [], ◌∷◌, ◌++◌, ap, sym, subst, ◌∙◌}
 use Rattle.lock_core.specs.declared.object.LockMode.TheVariants as mode
 use Rattle.namespace_model.specs.declared.request.Request.{Request}
 use Rattle.namespace_model.specs.Locality.{Among}
@@ -18,12 +18,9 @@ use Rattle.inode_tree.proofs.PairLemmas.{known_has, known_is}
 use Rattle.inode_tree.proofs.PromiseLemmas.{outcome_there, lies_one}
 use Rattle.path_walk.proofs.SetLemmas.{one_has, has_one, one_lies}
 use Rattle.path_walk.proofs.TrailLemmas.{one_of_append}
+use Rattle.path_walk.proofs.Truths.{either_true}
 
-either_true : (b : Bool) → (b || true) ≡ true
-either_true true = refl
-either_true false = refl
-
-among_either : (p : Path) (ps qs : List Path) → Among p (ps ++ qs) → Among p ps ⊎ Among p qs
+pub among_either : (p : Path) (ps qs : List Path) → Among p (ps ++ qs) → Among p ps ⊎ Among p qs
 among_either p [] qs h = inr h
 among_either p (x ∷ ps) qs (inl e) = inl (inl e)
 among_either p (x ∷ ps) qs (inr h) = elim (among_either p ps qs h) [ inl k ↦ inl (inr k) | inr k ↦ inr k ]

@@ -1,10 +1,11 @@
 -- What is asked of an evaluator, what it answers, and what a view that it looked through keeps.
-use Rattle.std.specs.Prelude.{◌≡◌, ℕ, ◌<◌, ◌≤◌, ◌^◌, [], Some, Result}
+use Rattle.std.specs.Prelude.{◌≡◌, ◌<◌, ◌≤◌, ◌^◌, [], Some, Result}
 use Rattle.lease_state.specs.declared.lease.TheConstants.{LAST_MOMENT}
 use Rattle.namespace_model.specs.declared.op.Op.{Op}
 use Rattle.namespace_model.specs.declared.op.Op.TheVariants as op
 use Rattle.namespace_model.specs.Sound.{IsSound}
 use Rattle.namespace_model.specs.Trees.{Path}
+use Rattle.namespace_model.specs.declared.request.Entry.{Entry}
 use Rattle.inode_tree.specs.declared.draft.Draft.{Draft}
 use Rattle.inode_tree.specs.declared.draft.EvalStop.{EvalStop}
 use Rattle.inode_tree.specs.Promises.{IsEvaluated}
@@ -42,6 +43,10 @@ pub record IsCall (call : Call) : Type 0 where
   pub moment : call.moment ≤ LAST_MOMENT
   pub pass : call.fresh.pass < 64
   pub used : call.fresh.used < 2 ^ 40
+
+-- An entry of the call. On which connection it came doesn't matter to what comes of a node.
+abbrev pub entry_of : Call → Entry
+entry_of call = record { conn = 0; index = 0; moment = call.moment; request = call.request.now }
 
 -- what an evaluator answers
 abbrev pub Answers : Held → Shown → Call → Result Draft EvalStop → Type 0

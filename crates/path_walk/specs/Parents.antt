@@ -1,5 +1,5 @@
 -- Where the way to the parent of a path ends: at the parent, or before it.
-use Rattle.std.specs.Prelude.{◌≡◌, ◌≢◌, ℕ, List, [], ◌∷◌, ◌++◌, Some}
+use Rattle.std.specs.Prelude.{◌≡◌, ◌≢◌, List, [], ◌∷◌, ◌++◌, Some}
 use Rattle.namespace_model.specs.declared.caller.Caller.{Caller}
 use Rattle.namespace_model.specs.Trees.{Path, Tree, parent}
 use Rattle.namespace_model.specs.Ways.{reached, way_of, read_on}

@@ -1,10 +1,11 @@
-use Rattle.std.proofs.Common.{refl, ap, sym, subst, ◌∙◌}
+use Rattle.std.proofs.Common.{refl, ap, sym, ◌∙◌}
 use Rattle.namespace_model.specs.Refusals.{lacks}
 use Rattle.inode_tree.specs.Inodes.{node_of}
 use Rattle.inode_tree.specs.declared.draft.EvalStop.TheVariants as stop
 use Rattle.path_walk.proofs.StepLemmas.{same_error}
 use Rattle.path_walk.proofs.FindLemmas.{child_known, child_needs, parent_later}
-use Rattle.dir_rename.proofs.EndLemmas.{denied_looked, node_needs, spot_looked, is_none}
+use Rattle.path_walk.proofs.Truths.{is_none}
+use Rattle.dir_rename.proofs.EndLemmas.{denied_looked, node_needs, spot_looked}
 use Rattle.dir_rename.proofs.ends.look_in.Goals as goal
 
 pub look_below-requires : goal.look_below-requires

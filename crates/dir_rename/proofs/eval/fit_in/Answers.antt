@@ -1,5 +1,4 @@
-use Rattle.std.proofs.Common.{◌++◌, refl, ap, subst, ◌∙◌}
-use Rattle.path_walk.specs.Answers.{IsAnswered}
+use Rattle.std.proofs.Common.{◌++◌, refl, ap, ◌∙◌}
 use Rattle.dir_rename.proofs.RenameLemmas.{too_long_answer, all_fit}
 use Rattle.dir_rename.proofs.eval.fit_in.Goals as goal
 

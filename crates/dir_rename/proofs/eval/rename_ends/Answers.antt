@@ -1,5 +1,5 @@
 use Rattle.std.proofs.Common.{sym, ◌∙◌}
-use Rattle.dir_rename.proofs.EndLemmas.{is_none}
+use Rattle.path_walk.proofs.Truths.{is_none}
 use Rattle.dir_rename.proofs.RenameLemmas.{refused_answer, not_refused}
 use Rattle.dir_rename.proofs.eval.rename_ends.Goals as goal
 

@@ -1,4 +1,3 @@
-use Rattle.std.proofs.Common.{refl}
 use Rattle.op_create.proofs.PlaceLemmas.{names_left}
 use Rattle.op_create.proofs.eval.names_from.Goals as goal
 

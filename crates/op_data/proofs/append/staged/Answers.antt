@@ -4,7 +4,7 @@ use Rattle.namespace_model.specs.Replies.{success}
 use Rattle.inode_tree.specs.declared.change.Edit.{Edit}
 use Rattle.inode_tree.specs.declared.change.Edit.TheVariants as edit
 use Rattle.inode_tree.specs.declared.meta.Meta.{Meta}
-use Rattle.op_data.specs.Tasks.{entry_of}
+use Rattle.path_walk.specs.Calls.{entry_of}
 use Rattle.op_data.proofs.LeaveLemmas.{with_lease, stage_edits, edits_say}
 use Rattle.op_data.proofs.append.staged.Goals as goal
 

@@ -5,7 +5,7 @@ use Rattle.namespace_model.specs.Replies.{success}
 use Rattle.inode_tree.specs.declared.change.Edit.{Edit}
 use Rattle.inode_tree.specs.declared.change.Edit.TheVariants as edit
 use Rattle.inode_tree.specs.declared.meta.Meta.{Meta}
-use Rattle.op_data.specs.Tasks.{entry_of}
+use Rattle.path_walk.specs.Calls.{entry_of}
 use Rattle.op_data.proofs.LeaveLemmas.{stamped_with, stage_flush_edits, same_edits}
 use Rattle.op_data.proofs.append.staged_and_flushed.Goals as goal
 

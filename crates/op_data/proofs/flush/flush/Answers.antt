@@ -2,8 +2,9 @@ use Rattle.std.proofs.Common.{sym, subst, ◌∙◌}
 use Rattle.std.specs.Prelude.{IfOk}
 use Rattle.path_walk.specs.Edits.{IsVerdict}
 use Rattle.path_walk.proofs.QuestionLemmas.{unless_refused, unless_passed}
-use Rattle.op_data.specs.Tasks.{entry_of}
-use Rattle.op_data.proofs.FlushLemmas.{is_none, flush_asks, flush_allowed}
+use Rattle.path_walk.proofs.Truths.{is_none}
+use Rattle.path_walk.specs.Calls.{entry_of}
+use Rattle.op_data.proofs.FlushLemmas.{flush_asks, flush_allowed}
 use Rattle.op_data.proofs.flush.flush.Goals as goal
 
 pub returns-in-Some : goal.returns-in-Some

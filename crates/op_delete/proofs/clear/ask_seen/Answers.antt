@@ -1,6 +1,6 @@
 use Rattle.std.proofs.Common.{◌++◌, ap, sym, subst, ◌∙◌}
 use Rattle.path_order.specs.Subtrees.{NeedsSubtree}
-use Rattle.op_delete.proofs.ClearLemmas.{not_empty}
+use Rattle.path_order.proofs.PathNames.{not_empty}
 use Rattle.op_delete.proofs.clear.ask_seen.Goals as goal
 
 pub ask_node-requires-clause-below : goal.ask_node-requires-clause-below

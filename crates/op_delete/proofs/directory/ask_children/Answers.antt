@@ -1,8 +1,9 @@
-use Rattle.std.proofs.Common.{Err, Some, option_map, refl, sym, ap, ◌∙◌}
+use Rattle.std.proofs.Common.{option_map, refl, sym, ◌∙◌}
 use Rattle.inode_tree.specs.declared.draft.EvalStop.TheVariants as stop
 use Rattle.path_walk.proofs.CallLemmas.{on_both}
 use Rattle.path_walk.proofs.StepLemmas.{same_error}
-use Rattle.op_delete.proofs.ClearLemmas.{is_none, at_later, none_passed, all_passed, child_is_known, one_refused, one_passed, child_lacks}
+use Rattle.path_walk.proofs.Truths.{is_none}
+use Rattle.op_delete.proofs.ClearLemmas.{at_later, none_passed, all_passed, child_is_known, one_refused, one_passed, child_lacks}
 use Rattle.op_delete.proofs.directory.ask_children.Goals as goal
 
 pub loop-count-init : goal.loop-count-init

@@ -1,8 +1,9 @@
 use Rattle.std.proofs.Common.{None, ap, sym, ◌∙◌}
 use Rattle.inode_tree.specs.Inodes.{BareInode, node_of}
 use Rattle.path_walk.proofs.FindLemmas.{ok_then}
+use Rattle.path_walk.proofs.Truths.{is_none}
 use Rattle.op_delete.specs.Deletes.{AsksNode, AsksChildren}
-use Rattle.op_delete.proofs.ClearLemmas.{is_none, at_later, empty_asks, denied_asks, unstuck_asks, filled_asks}
+use Rattle.op_delete.proofs.ClearLemmas.{at_later, empty_asks, denied_asks, unstuck_asks, filled_asks}
 use Rattle.op_delete.proofs.directory.ask_node.Goals as goal
 
 pub returns-then-not-has_children-clause-asks : goal.returns-then-not-has_children-clause-asks

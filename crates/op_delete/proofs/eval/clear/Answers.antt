@@ -1,6 +1,6 @@
 use Rattle.std.proofs.Common.{true, ◌++◌, Err, refl, ap, ◌∙◌}
 use Rattle.path_walk.proofs.CallAnswers.{stopped_by}
-use Rattle.op_delete.proofs.ClearLemmas.{is_none}
+use Rattle.path_walk.proofs.Truths.{is_none}
 use Rattle.op_delete.proofs.DeleteAnswers.{some_path, is_top, target_later, below_needed, all_looked, below_answer, all_below}
 use Rattle.op_delete.proofs.eval.clear.Goals as goal
 

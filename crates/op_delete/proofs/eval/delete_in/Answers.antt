@@ -1,4 +1,4 @@
-use Rattle.std.proofs.Common.{◌-◌, take, Ok, Err, refl, ap, sym, subst, ◌∙◌}
+use Rattle.std.proofs.Common.{◌-◌, take, Err, refl, ap, sym, subst, ◌∙◌}
 use Rattle.path_text.proofs.PathLemmas.{taken_is_parent}
 use Rattle.namespace_model.specs.Refusals.{lacks}
 use Rattle.inode_tree.specs.Inodes.{node_of}
@@ -6,8 +6,8 @@ use Rattle.path_walk.specs.Answers.{IsAnswered}
 use Rattle.path_walk.proofs.CallAnswers.{stopped_by}
 use Rattle.path_walk.proofs.CallLemmas.{on_both}
 use Rattle.path_walk.proofs.FindLemmas.{child_known, child_needs, nothing_found, parent_later}
-use Rattle.op_delete.proofs.ClearLemmas.{is_none}
-use Rattle.op_delete.proofs.DeleteAnswers.{some_path, denied_answer, node_needed, missing_answer, target_found}
+use Rattle.path_walk.proofs.Truths.{is_none}
+use Rattle.op_delete.proofs.DeleteAnswers.{denied_answer, node_needed, missing_answer, target_found}
 use Rattle.op_delete.proofs.eval.delete_in.Goals as goal
 
 pub look_below-requires : goal.look_below-requires

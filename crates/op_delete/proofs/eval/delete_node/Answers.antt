@@ -1,7 +1,7 @@
 use Rattle.std.proofs.Common.{◌≡◌, None, [], ◌∷◌, ◌++◌, refl, ap, sym, subst, ◌∙◌}
 use Rattle.namespace_model.specs.declared.op.Op.TheVariants as op
+use Rattle.path_walk.proofs.Truths.{is_none}
 use Rattle.op_delete.specs.Deletes.{refusal_of}
-use Rattle.op_delete.proofs.ClearLemmas.{is_none}
 use Rattle.op_delete.proofs.DeleteAnswers.{refused_answer, alone}
 use Rattle.op_delete.proofs.eval.delete_node.Goals as goal
 

@@ -1,4 +1,4 @@
-use Rattle.std.proofs.Common.{◌∷◌, [], ◌++◌, Err, refl, ap, sym, subst, ◌∙◌}
+use Rattle.std.proofs.Common.{◌∷◌, [], ◌++◌, Err, refl, ap, sym, ◌∙◌}
 use Rattle.namespace_model.specs.Replies.{success}
 use Rattle.namespace_model.specs.Trees.{parent}
 use Rattle.path_walk.proofs.CallAnswers.{stopped_by}

@@ -2,7 +2,8 @@ use Rattle.std.proofs.Common.{[], ◌∷◌, true, ap, ◌∙◌}
 use Rattle.inode_tree.specs.declared.change.Edit.{Edit}
 use Rattle.inode_tree.specs.declared.change.Edit.TheVariants as edit
 use Rattle.inode_tree.specs.declared.meta.Meta.{Meta}
-use Rattle.op_meta.specs.Metas.{access_meta, entry_of, setting_of}
+use Rattle.path_walk.specs.Calls.{entry_of}
+use Rattle.op_meta.specs.Metas.{access_meta, setting_of}
 use Rattle.op_meta.proofs.EditLemmas.{stamped_at, access_edit, edits_say}
 use Rattle.op_meta.proofs.access.access_put.Goals as goal
 

@@ -4,7 +4,7 @@ use Rattle.lease_state.specs.LeaseTable.{lease_after_write}
 use Rattle.inode_tree.specs.declared.change.Edit.{Edit}
 use Rattle.inode_tree.specs.declared.change.Edit.TheVariants as edit
 use Rattle.inode_tree.specs.declared.meta.Meta.{Meta}
-use Rattle.op_meta.specs.Metas.{entry_of}
+use Rattle.path_walk.specs.Calls.{entry_of}
 use Rattle.op_meta.proofs.EditLemmas.{with_properties, properties_edit, edits_say}
 use Rattle.op_meta.proofs.properties.properties_set.Goals as goal
 

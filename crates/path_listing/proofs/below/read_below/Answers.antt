@@ -2,9 +2,9 @@ use Rattle.std.proofs.Common.{true, option_map, subst}
 use Rattle.inode_tree.specs.declared.draft.EvalStop.TheVariants as stop
 use Rattle.path_walk.proofs.StepLemmas.{same_error}
 use Rattle.path_order.specs.Starts.{IsStartAt}
-use Rattle.path_order.proofs.ListingLemmas.{walk_of}
+use Rattle.path_order.proofs.ListingLemmas.{walk_of, start_as}
 use Rattle.path_listing.specs.Listed.{IsPage, NeedsPage}
-use Rattle.path_listing.proofs.BelowLemmas.{nothing_read, page_read, start_as, way_lacks, walk_lacks, ok_both}
+use Rattle.path_listing.proofs.BelowLemmas.{nothing_read, page_read, way_lacks, walk_lacks, ok_both}
 use Rattle.path_listing.proofs.below.read_below.Goals as goal
 
 pub read_from-requires-clause-walk : goal.read_from-requires-clause-walk

@@ -1,7 +1,7 @@
 use Rattle.std.proofs.Common.{Err, sym, ap, ◌∙◌}
 use Rattle.path_walk.proofs.CallAnswers.{stopped_by}
+use Rattle.path_walk.proofs.Truths.{is_none}
 use Rattle.path_listing.proofs.ListAnswers.{dir_at, refused_answer, page_needed, directory_later}
-use Rattle.path_listing.proofs.RowLemmas.{is_none}
 use Rattle.path_listing.proofs.eval.list_node.Goals as goal
 
 pub returns-in-Some-clause-evaluated : goal.returns-in-Some-clause-evaluated

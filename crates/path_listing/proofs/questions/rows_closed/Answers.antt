@@ -1,7 +1,8 @@
 use Rattle.std.proofs.Common.{◌≡◌, ◌+◌, ◌<◌, length, drop, sym, ap, ◌∙◌, arith}
 use Rattle.namespace_model.specs.Refusals.{or_else}
+use Rattle.path_walk.proofs.Truths.{is_none}
 use Rattle.path_listing.specs.Listed.{rows_closed}
-use Rattle.path_listing.proofs.RowLemmas.{rows_one, rows_none, is_none}
+use Rattle.path_listing.proofs.RowLemmas.{rows_one, rows_none}
 use Rattle.path_listing.proofs.questions.rows_closed.Goals as goal
 
 pub returns-in-Some : goal.returns-in-Some

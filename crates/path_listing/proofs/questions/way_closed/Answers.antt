@@ -1,7 +1,8 @@
 use Rattle.std.proofs.Common.{◌≡◌, ◌+◌, ◌<◌, length, drop, refl, sym, ap, ◌∙◌, arith}
 use Rattle.namespace_model.specs.Refusals.{or_else}
+use Rattle.path_walk.proofs.Truths.{is_none}
 use Rattle.path_listing.specs.Listed.{way_closed}
-use Rattle.path_listing.proofs.RowLemmas.{way_one, way_none, is_none}
+use Rattle.path_listing.proofs.RowLemmas.{way_one, way_none}
 use Rattle.path_listing.proofs.questions.way_closed.Goals as goal
 
 pub returns-in-Some : goal.returns-in-Some

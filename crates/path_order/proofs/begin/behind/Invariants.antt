@@ -1,4 +1,4 @@
-use Rattle.std.proofs.Common.{◌≡◌, take}
+use Rattle.std.proofs.Common.{take}
 use Rattle.namespace_model.specs.Trees.{Path}
 use Rattle.path_walk.specs.Calls.{GoesOn}
 use Rattle.path_order.specs.Starts.{IsAtFor}

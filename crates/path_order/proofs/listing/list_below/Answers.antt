@@ -1,4 +1,4 @@
-use Rattle.std.proofs.Common.{option_map, refl, sym, subst}
+use Rattle.std.proofs.Common.{option_map, refl, subst}
 use Rattle.inode_tree.specs.declared.draft.EvalStop.TheVariants as stop
 use Rattle.path_walk.proofs.FindLemmas.{ok_then}
 use Rattle.path_walk.proofs.StepLemmas.{same_error}

@@ -1,4 +1,4 @@
-use Rattle.std.proofs.Common.{◌≡◌, ◌+◌, ◌<◌, ◌≤◌, refl, sym, subst, ◌∙◌, arith}
+use Rattle.std.proofs.Common.{◌≡◌, ◌+◌, ◌<◌, ◌≤◌, refl, sym, subst, arith}
 use Rattle.inode_tree.specs.declared.draft.EvalStop.TheVariants as stop
 use Rattle.path_walk.proofs.CallLemmas.{on_both}
 use Rattle.path_walk.proofs.StepLemmas.{same_error}

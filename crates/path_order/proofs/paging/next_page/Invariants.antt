@@ -1,4 +1,3 @@
-use Rattle.std.proofs.Common.{◌≡◌}
 use Rattle.namespace_model.specs.Trees.{Path}
 use Rattle.path_walk.specs.Calls.{GoesOn}
 use Rattle.path_order.specs.Cursors.{IsWalk, IsCursor}

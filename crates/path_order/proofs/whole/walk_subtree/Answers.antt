@@ -13,7 +13,7 @@ next_page-requires-clause-walk g c = (
 
 pub returns-in-Err-clause-need : goal.returns-in-Err-clause-need
 returns-in-Err-clause-need g c = λ n e p is.
-    whole_needs _ _ p _ n
+    whole_needs _ _ p 18446744073709551615 n
     (c.in-Err.ensures.need n (same_error c.in-Err.stop (stop.Need n) e) p p (c.start-cursor.ensures (g.V.View.shown c.args.view.now) p (top_at _ p c.args.top _ c.in_ok-copy.ensures is)))
 
 pub returns-clause-nodes : goal.returns-clause-nodes

@@ -1,5 +1,4 @@
-use Rattle.std.proofs.Common.{◌≡◌, ℕ, suc, ◌-◌, ◌<◌, List, Some, length, slice_get, arith}
-use Rattle.namespace_model.specs.Trees.{Path, parent}
+use Rattle.std.proofs.Common.{◌-◌, arith}
 use Rattle.inode_tree.specs.declared.draft.EvalStop.TheVariants as stop
 use Rattle.path_walk.proofs.StepLemmas.{child_known, name_above, one_less, trail_later, stepped, needs, same_error}
 use Rattle.path_walk.proofs.way.advance.Goals as goal

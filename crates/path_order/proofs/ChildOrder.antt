@@ -1,9 +1,7 @@
 -- The children of a directory in path order: those behind a name, one by one.
-use Rattle.std.proofs.Common.{◌≡◌, ◌⊎◌, inl, inr, ℕ, true, List, [], ◌∷◌, ◌++◌, Option, Some, None, is_some, sym, ap, subst, ◌∙◌}
+use Rattle.std.proofs.Common.{◌≡◌, ◌⊎◌, inl, inr, ℕ, List, [], ◌∷◌, ◌++◌, Option, Some, None, is_some, sym, ap, subst, ◌∙◌}
 use Rattle.std.proofs.lemmas.Bool.{false≢true}
 use Rattle.std.specs.declared.cmp.Ordering.TheVariants.{Less, Greater}
-use Rattle.namespace_model.specs.Locality.{Among}
-use Rattle.namespace_model.specs.Pages.{above}
 use Rattle.namespace_model.specs.Trees.{Path, Tree, at, is_child, children}
 use Rattle.namespace_model.proofs.Lookups.{among_keys, keys_among}
 use Rattle.namespace_model.proofs.PageOrder.{before_itself, keys_ascend}
@@ -12,19 +10,11 @@ use Rattle.inode_tree.specs.FirstChild.{IsFirstChild, IsChildAbove}
 use Rattle.inode_tree.specs.Inodes.{BareInode}
 use Rattle.inode_tree.specs.Parts.{Parts}
 use Rattle.inode_tree.specs.Stands.{Stands}
-use Rattle.path_order.specs.Cursors.{Before, IsAt, IsNext, NoneBehind}
+use Rattle.path_order.specs.Cursors.{Before, IsAt}
 use Rattle.path_order.proofs.CursorLemmas.{next_name, first_name, no_name_behind, nothing_left, laid}
-use Rattle.path_order.proofs.NextPath.{by_bytes, less_no_greater, front_first, names_tell, by_names, behind_name, IsNextName, IsFirstName, NoNameBehind, next_below, next_of, none_of}
+use Rattle.path_order.proofs.NextPath.{by_bytes, less_no_greater, front_first, names_tell, by_names, behind_name, IsNextName, next_below, next_of, none_of}
 use Rattle.path_order.proofs.TokenLemmas.{all_behind}
-
--- the place to which the last name leads, and the directory's own where there is none
-abbrev pub reached_at : Path → Option (List ℕ) → Path
-reached_at p None = p
-reached_at p (Some n) = p ++ n ∷ []
-
--- the children behind it
-abbrev pub left_at : Tree → Path → Option (List ℕ) → List Path
-left_at t p last = above (Some (reached_at p last)) (children t p)
+use Rattle.path_order.specs.Children.{left_at}
 
 -- at the beginning all of them
 pub all_left : (t : Tree) (p : Path) → left_at t p None ≡ children t p

@@ -1,5 +1,5 @@
 use Rattle.std.proofs.Common.{◌≡◌, ◌++◌, take}
-use Rattle.op_delete.proofs.clear.path_of.Given as goal
+use Rattle.path_order.proofs.names.path_below.Given as goal
 
 abbrev pub invariant-loop-name : goal.invariant-loop-name
 invariant-loop-name l = l.whole ≡ l.fn.path ++ take l.name-index l.names

@@ -1,5 +1,5 @@
--- Whether nothing stands below a node.
-use Rattle.std.proofs.Common.{◌≡◌, ◌≢◌, inl, ℕ, zero, suc, ◌+◌, ◌==◌, Bool, true, false, cond, not, ◌&&◌, List, [], ◌∷◌, ◌++◌, length, Option, Some, None, is_some, refl, ap, sym, ◌∙◌, arith}
+-- What stands below a node, and whether anything does.
+use Rattle.std.proofs.Common.{◌≡◌, inl, ℕ, suc, ◌==◌, true, false, cond, not, ◌&&◌, List, [], ◌∷◌, ◌++◌, length, Option, Some, None, is_some, refl, ap, sym, ◌∙◌, arith}
 use Rattle.std.proofs.lemmas.Bool.{false≢true}
 use Rattle.std.proofs.lemmas.Option.{same_Some}
 use Rattle.std.specs.Cmp.Lexicographic.{nat_list_cmp_total}
@@ -10,7 +10,6 @@ use Rattle.namespace_model.specs.Nodes.{is_directory}
 use Rattle.namespace_model.specs.Trees.{Path, Tree, at, is_bare, children, is_child}
 use Rattle.namespace_model.proofs.Lookups.{among_keys, keys_among}
 use Rattle.namespace_model.proofs.Prefixes.{name_child, child_name}
-use Rattle.inode_tree.specs.declared.inode.Content.{Content}
 use Rattle.inode_tree.specs.ChildLists.{name_cmp}
 use Rattle.inode_tree.specs.Index.{IsIndex}
 use Rattle.inode_tree.specs.Inodes.{BareContent, directory, file, BareInode, links_in, node_of}
@@ -32,6 +31,11 @@ module _ (parts : Parts) (t : Tree) (stands : Stands parts t) (path : Path) (i :
   leads_on n =
       let place = index.places path i leads in
       ap (λ (z : BareInode). child_of z n) (same_Some y place.inode (sym there ∙ place.found)) ∙ place.links n
+
+  pub shows_node : at t path ≡ Some (node_of y)
+  shows_node =
+      let place = index.places path i leads in
+      place.shows ∙ ap (λ (z : BareInode). Some (node_of z)) (same_Some place.inode y (sym place.found ∙ there))
 
   child_leads : (n : List ℕ) (c : Option ℕ) → child_of y n ≡ c → follow parts 0 (path ++ n ∷ []) ≡ c
   child_leads n c e = sym (leads_on n) ∙ e
@@ -59,7 +63,7 @@ module _ (parts : Parts) (t : Tree) (stands : Stands parts t) (path : Path) (i :
   some_long q [] h = absurd h
   some_long q (p ∷ ps) h = number_differs (length (p ∷ ps)) 0 (λ e. let s : length (p ∷ ps) ≡ suc (length ps) = refl in omega arith)
 
-  bare_is : is_bare t path ≡ (fin.len (links_in y.content) == 0)
+  pub bare_is : is_bare t path ≡ (fin.len (links_in y.content) == 0)
   bare_is = by_entries (fin.entries (links_in y.content)) refl
     where
       by_entries : (es : List (List ℕ × ℕ)) → fin.entries (links_in y.content) ≡ es → is_bare t path ≡ (fin.len (links_in y.content) == 0)

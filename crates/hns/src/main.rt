@@ -4,13 +4,20 @@
 use conn_io::{StdIn, StdOut, SystemClock};
 use hns_commands::{USAGE, run_pipe};
 use std::env;
+use std::io::ErrorKind;
 use std::process::ExitCode;
 
 fn main(rt: HostRuntime) -> ExitCode {
-    // Words that are no text are no command either.
-    let Ok(arguments) = env::args(&rt) else {
-        let _ = eprintln!(rt; "{USAGE}");
-        return ExitCode::from(2);
+    let arguments = match env::args(&rt) {
+        Ok(arguments) => arguments,
+        Err(fault) => match fault.kind() {
+            ErrorKind::OutOfMemory => return ExitCode::from(5),
+            _ => {
+                // Words that are no text are no command either.
+                let _ = eprintln!(rt; "{USAGE}");
+                return ExitCode::from(2);
+            }
+        },
     };
     let mut words = Vec::new(rt.alloc());
     for word in arguments.skip(1) {

@@ -1,0 +1,10 @@
+pub mod LookLemmas
+pub mod KeepLemmas
+pub mod CommitLemmas
+pub mod RoundLemmas
+pub mod CloseLemmas
+pub mod DrawLemmas
+pub mod EvaluateLemmas
+pub mod AnswerLemmas
+pub mod RoundEndLemmas
+pub mod SubmitLemmas

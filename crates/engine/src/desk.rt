@@ -16,6 +16,8 @@ impl Desk for Solo {
 
     type Kept = Entry;
 
+    type Over = ();
+
     ghost entry_of = { itself };
 
     ghost entered = { as_asked };
@@ -25,6 +27,8 @@ impl Desk for Solo {
     ghost is_own = { λ s. all_own };
 
     ghost limits = { λ s. s.limits };
+
+    ghost over = { λ s. tt };
 
     ghost conn = { λ s. 0 };
 

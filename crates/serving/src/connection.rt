@@ -43,6 +43,7 @@ pub fn serve<D: Desk, S: Source, K: Sink, C: Clock>(
     ensures same_limits { D.limits desk.new ≡ D.limits desk.old }
     ensures same_conn { D.conn desk.new ≡ D.conn desk.old }
     ensures same_own { D.is_own desk.new ≡ D.is_own desk.old }
+    ensures same_over { D.over desk.new ≡ D.over desk.old }
 {
     let most = desk.requests_max();
     let mut reader = Reader::new(alloc);
@@ -93,6 +94,7 @@ fn answer<D: Desk, C: Clock>(
     ensures same_limits { D.limits desk.new ≡ D.limits desk.old }
     ensures same_conn { D.conn desk.new ≡ D.conn desk.old }
     ensures same_own { D.is_own desk.new ≡ D.is_own desk.old }
+    ensures same_over { D.over desk.new ≡ D.over desk.old }
 {
     let request = decode(alloc, raw)?;
     let closes = request.close;

@@ -17,6 +17,9 @@ pub trait Desk {
     /// What the journal holds: an entry, with what else the server keeps of it.
     type Kept;
 
+    /// What tells which server it is.
+    type Over;
+
     // The entry in what the journal holds.
     ghost entry_of: { Self.Kept → Entry };
     // What is entered into the journal for a request: the request, or its refusal where the server has no answer to
@@ -28,6 +31,8 @@ pub trait Desk {
     ghost is_own: { Self → Self.Kept → Bool };
     // The limits of the journal and of the connection.
     ghost limits: { Self → LimitNumbers };
+    // Which server it is, and what of it no request changes.
+    ghost over: { Self → Self.Over };
     // The number of the connection.
     ghost conn: { Self → ℕ };
     // The number, counted from 0, of the clock's answer in one call that is the moment, and how often the call asks
@@ -59,5 +64,6 @@ pub trait Desk {
             HasFull refusal (map entry_of (known self.new).seen) (limits self.old) (length request.body)) }
         ensures same_limits { limits self.new ≡ limits self.old }
         ensures same_conn { conn self.new ≡ conn self.old }
-        ensures same_own { is_own self.new ≡ is_own self.old };
+        ensures same_own { is_own self.new ≡ is_own self.old }
+        ensures same_over { over self.new ≡ over self.old };
 }

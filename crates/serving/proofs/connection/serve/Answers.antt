@@ -11,6 +11,7 @@ serving-init g c = record {
   same_limits = refl;
   same_conn = refl;
   same_own = refl;
+  same_over = refl;
   reads = refl;
   writes = refl;
 }
@@ -65,6 +66,7 @@ serving-preserved g c =
       same_limits = c.in-Ok.ensures.same_limits ∙ inv.same_limits;
       same_conn = c.in-Ok.ensures.same_conn ∙ inv.same_conn;
       same_own = c.in-Ok.ensures.same_own ∙ inv.same_own;
+      same_over = c.in-Ok.ensures.same_over ∙ inv.same_over;
       reads = c.in-Ok-Request.ensures.counts ∙ inv.reads;
       writes = c.in-Ok-write_all.ensures.counts.kept ∙ inv.writes;
     }

@@ -11,6 +11,7 @@ invariant-serving g l = record {
   same_limits : g.D.Desk.limits l.desk ≡ g.D.Desk.limits l.fn.desk;
   same_conn : g.D.Desk.conn l.desk ≡ g.D.Desk.conn l.fn.desk;
   same_own : g.D.Desk.is_own l.desk ≡ g.D.Desk.is_own l.fn.desk;
+  same_over : g.D.Desk.over l.desk ≡ g.D.Desk.over l.fn.desk;
   reads : g.S.Source.faults l.source ≡ g.S.Source.faults l.fn.source;
   writes : g.K.Sink.faults l.sink ≡ g.K.Sink.faults l.fn.sink;
 }

@@ -118,6 +118,7 @@ impl Sink for TcpOut {
 
 /// A listener over TCP. It never ends by itself. It counts the system's errors: one that concerns a single connection, or a want of
 /// descriptors or memory, does not stop it, any other makes it fail.
+#[derive(Drop)]
 pub struct TcpList<'a, R: Clock> {
     rt: &'a R,
     alloc: Global,

@@ -44,6 +44,7 @@ use Rattle.engine.specs.declared.solo.Answer.{Answer}
 use Rattle.engine.specs.Submits.{Submits}
 use Rattle.engine.proofs.FineSteps.{outcome_fine}
 use Rattle.serving.specs.Texts.{texts_of}
+use Rattle.reply_marks.specs.Marks.{mark_of}
 use Rattle.serving.proofs.Texts.{texts_push}
 
 -- ---- moments
@@ -198,15 +199,16 @@ module _ (old : SoloView) (kept : IsKept old) (e : Entry) (sound : IsSound e.req
 
   -- the entry is submitted
   pub submits : (new : SoloView) (answer : Answer) → new.entries ≡ old.entries ++ e ∷ [] → parts_in new ≡ applied_all number d.changes.items (parts_in old) → new.used ≡ old.used + d.drawn
-      → answer.bytes.items ≡ reply_text d.reply number e.moment e.request.head → answer.receipt.number ≡ number
+      → answer.bytes.items ≡ reply_text d.reply number e.moment e.request.head → answer.mark ≡ mark_of d.reply → answer.receipt.number ≡ number
       → AreBits answer.receipt.exclusive (λ k. lies_in k (numbers_of d.writes.items) ≡ true)
       → AreBits answer.receipt.shared (λ k. (lies_in k (numbers_of d.writes.items) ≡ false) × (lies_in k (numbers_of d.reads.items) ≡ true))
       → answer.receipt.rounds ≡ 1 → Submits old new e answer
-  submits new answer pushed is drawn text numbered exclusive shared rounds =
+  submits new answer pushed is drawn text marked numbered exclusive shared rounds =
       let longer : length new.entries ≡ number = ap length pushed ∙ length-append old.entries (e ∷ []) in
       record {
         journal = pushed;
         text = ap texts_of pushed ∙ texts_push old.entries e ∙ ap (λ x. texts_of old.entries ++ x ∷ []) (sym (text ∙ ap (λ r. reply_text r number e.moment e.request.head) of_step.reply));
+        mark = marked ∙ ap mark_of of_step.reply;
         parts = parts_after (parts_in new) is ∙ ap (after (parts_in old) placed) (sym longer);
         ids = drawn ∙ ap (λ n. old.used + n) of_step.drawn;
         number = numbered ∙ sym longer;

@@ -8,12 +8,14 @@ use Rattle.inode_tree.specs.After.{after}
 use Rattle.inode_tree.specs.Footprints.{reads, writes}
 use Rattle.striped_store.specs.Receipts.{AreBits}
 use Rattle.serving.specs.Texts.{texts_of}
+use Rattle.reply_marks.specs.Marks.{next_mark}
 
--- The entry is the journal's last. The answer has the text of its reply in the run of the journal, and its number. The parts are those that the
+-- The entry is the journal's last. The answer has the text of its reply in the run of the journal, what that counts as, and its number. The parts are those that the
 -- entry makes of the ones before, its new nodes have the next ids, and the receipt has the stripes of what it wrote, and of what it read alone.
 pub record Submits (old new : SoloView) (entry : Entry) (answer : Answer) : Type 0 where
   pub journal : new.entries ≡ old.entries ++ entry ∷ []
   pub text : texts_of new.entries ≡ texts_of old.entries ++ answer.bytes.items ∷ []
+  pub mark : answer.mark ≡ next_mark old.entries entry
   pub parts : parts_in new ≡ after (parts_in old) (placed_behind old entry) (length new.entries)
   pub ids : new.used ≡ old.used + length (new_paths (tree_after old.entries) entry)
   pub number : answer.receipt.number ≡ length new.entries

@@ -5,16 +5,18 @@ use super::stripes::Stripes;
 use commit_journal::{Full, Journal, Limits};
 use inode_tree::{EvalStop, Fresh};
 use namespace_model::{Entry, Request};
+use reply_marks::Mark;
 use serving::SubmitRefusal;
 use std::alloc::{AllocError, Global};
 use std::marker::Model;
 use striped_store::Receipt;
 
-/// The text of a reply, and the receipt of its entry: its number, the stripes of the nodes that it wrote and of those that it read
-/// alone, and one round.
+/// The text of a reply, what the reply counts as, and the receipt of its entry: its number, the stripes of the nodes that it wrote and of
+/// those that it read alone, and one round.
 #[derive(Debug, Drop)]
 pub struct Answer {
     pub bytes: Vec<u8>,
+    pub mark: Mark,
     pub receipt: Receipt,
 }
 
@@ -117,6 +119,7 @@ impl Solo {
         self.used += u64::from(draft.drawn);
         Ok(Answer {
             bytes,
+            mark: Mark::of(&draft.reply),
             receipt: receipt_of(number, draft.reads.as_slice(), draft.writes.as_slice()),
         })
     }

@@ -25,6 +25,7 @@ use Rattle.parted_namespace.specs.Namespace.{parts_of, namespace}
 use Rattle.parted_namespace.specs.Opening.{bare_stripe}
 use Rattle.parted_namespace.proofs.JournalLemmas.{fitting_stand}
 use Rattle.reply_text.specs.ReplyText.{CanSpell, reply_text}
+use Rattle.reply_marks.specs.Marks.{mark_of}
 use Rattle.engine.specs.declared.solo.Answer.{Answer}
 use Rattle.engine.proofs.FineSteps.{outcome_fine}
 use Rattle.service_workers.specs.Drafts.{fresh_of, IsDrafted}
@@ -69,9 +70,9 @@ module _ {K : Type 0} where
       → ((before : List Placed) → seen_by new ≡ before ++ e ∷ [] → (outcome_on (parts_of (replay namespace before)) e).reply ≡ reply)
       → answer.receipt.number ≡ length (seen_by new)
       → ((before : List Placed) → seen_by new ≡ before ++ e ∷ [] → TellsFootprint namespace (replay namespace before) e answer.receipt)
-      → answer.bytes.items ≡ reply_text reply answer.receipt.number e.entry.moment e.entry.request.head
+      → answer.bytes.items ≡ reply_text reply answer.receipt.number e.entry.moment e.entry.request.head → answer.mark ≡ mark_of reply
       → Commits old new e.entry answer
-  commits old new e reply answer seen mine fit by replies number footprint text = record {
+  commits old new e reply answer seen mine fit by replies number footprint text marked = record {
     placed = e;
     entry_is = refl;
     by = by;
@@ -80,6 +81,7 @@ module _ {K : Type 0} where
     number = number;
     stands = stand.stands;
     text = text ∙ ap (λ n. reply_text reply n e.entry.moment e.entry.request.head) number_is ∙ ap (λ r. reply_text r (length (entries_of before) + 1) e.entry.moment e.entry.request.head) reply_is;
+    mark = marked ∙ ap mark_of reply_is;
     footprint = footprint before seen.ends;
   }
     where
@@ -103,6 +105,7 @@ module _ {K : Type 0} where
       → ((before : List Placed) → seen_by new ≡ before ++ e ∷ [] → (outcome_on (parts_of (replay namespace before)) e).reply ≡ reply)
       → answer.receipt.number ≡ length (seen_by new)
       → ((before : List Placed) → seen_by new ≡ before ++ e ∷ [] → TellsFootprint namespace (replay namespace before) e answer.receipt)
-      → answer.bytes.items ≡ reply_text reply answer.receipt.number e.entry.moment e.entry.request.head
+      → answer.bytes.items ≡ reply_text reply answer.receipt.number e.entry.moment e.entry.request.head → answer.mark ≡ mark_of reply
       → Commits old new entry answer
-  commits_as old new e entry reply answer is seen mine fit by replies number footprint text = subst (λ (x : Entry). Commits old new x answer) is (commits old new e reply answer seen mine fit by replies number footprint text)
+  commits_as old new e entry reply answer is seen mine fit by replies number footprint text marked =
+      subst (λ (x : Entry). Commits old new x answer) is (commits old new e reply answer seen mine fit by replies number footprint text marked)

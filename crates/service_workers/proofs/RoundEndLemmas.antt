@@ -30,6 +30,7 @@ module _ {K : Type 0} {store : TableView Placed} (old mid new : NamespacePass K)
     number = is.number;
     stands = is.stands;
     text = is.text;
+    mark = is.mark;
     footprint = is.footprint;
   }
 

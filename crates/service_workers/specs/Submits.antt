@@ -20,6 +20,7 @@ use Rattle.parted_namespace.specs.Journals.{entries_of}
 use Rattle.parted_namespace.specs.Namespace.{parts_of, namespace}
 use Rattle.engine.specs.declared.solo.Answer.{Answer}
 use Rattle.serving.specs.Texts.{next_text}
+use Rattle.reply_marks.specs.Marks.{next_mark}
 use Rattle.service_workers.specs.declared.asked.Asked.{Asked}
 use Rattle.service_workers.specs.Drafts.{body_in}
 use Rattle.service_workers.specs.Looks.{NamespacePass}
@@ -30,7 +31,7 @@ entry_at asked moment = record { conn = asked.conn; index = asked.index; moment 
 
 module _ {K : Type 0} where
   -- An entry of this request is the last of the journal, and of the pass's own. The journal before stands for the tree of its run; on it
-  -- the entry's reply has the text, and the receipt has the stripes of what the entry writes, and of what it reads alone.
+  -- the entry's reply has the text and the mark, and the receipt has the stripes of what the entry writes, and of what it reads alone.
   pub record Commits (old new : NamespacePass K) (entry : Entry) (answer : Answer) : Type 0 where
     pub placed : Placed
     pub entry_is : placed.entry ≡ entry
@@ -40,6 +41,7 @@ module _ {K : Type 0} where
     pub number : answer.receipt.number ≡ length (seen_by new)
     pub stands : Stands (parts_of (replay namespace seen.before)) (tree_after (entries_of seen.before))
     pub text : answer.bytes.items ≡ next_text (entries_of seen.before) entry
+    pub mark : answer.mark ≡ next_mark (entries_of seen.before) entry
     pub footprint : TellsFootprint namespace (replay namespace seen.before) placed answer.receipt
 
   -- What is asked was committed, and its moment is the clock's answer in the last round.

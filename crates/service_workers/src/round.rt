@@ -28,6 +28,7 @@ use inode_tree::{Draft, EvalStop, Fresh, Need, Placed};
 use namespace_model::{Entry, Request};
 use parted_namespace::Namespace;
 use path_locks::Held;
+use reply_marks::Mark;
 use reply_text::fill;
 use std::alloc::Global;
 use std::sync::Wait;
@@ -166,6 +167,7 @@ impl<K: Keeper<Placed>> Service<K> {
             self.store.finish(pass, held);
             return Err(CommitRefusal::NoMemory);
         };
+        let mark = Mark::of(&draft.reply);
         let Prepared {
             mut text,
             slots,
@@ -176,6 +178,7 @@ impl<K: Keeper<Placed>> Service<K> {
                 fill(text.as_mut_slice(), slots, receipt.number);
                 Ok(Answer {
                     bytes: text,
+                    mark,
                     receipt,
                 })
             }

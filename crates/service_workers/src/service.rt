@@ -5,8 +5,9 @@ ghost use Rattle.lock_core.specs.Sound.{AllFit};
 ghost use Rattle.commit_journal.specs.Keeper.{AreKept};
 ghost use Rattle.namespace_model.specs.Step.{tree_after};
 ghost use Rattle.inode_tree.specs.Stands.{Stands};
+ghost use Rattle.path_locks.specs.Views.{HoldsNothing, IsSeatAgain};
 ghost use Rattle.striped_store.specs.Closed.{AreEveryPass, AreByPasses};
-ghost use Rattle.striped_store.specs.Views.{AreNewPasses};
+ghost use Rattle.striped_store.specs.Views.{AreNewPasses, FindsOneJournal, IsOf, seen_by, made_by};
 ghost use Rattle.parted_namespace.specs.Journals.{entries_of};
 ghost use Rattle.parted_namespace.specs.Namespace.{parts_of, namespace};
 ghost use Rattle.parted_namespace.specs.Opening.{bare_stripe};
@@ -15,8 +16,10 @@ ghost use Rattle.service_workers.specs.Closes.{AreOfPasses};
 use commit_journal::{Keeper, Limits};
 use inode_tree::Placed;
 use parted_namespace::Namespace;
+use path_locks::Plan;
 use std::alloc::{AllocError, Global};
 use std::marker::Model;
+use std::sync::Wait;
 use striped_store::{Closing, Pass, Store};
 
 /// The namespace in a store of 64 stripes, shared by its passes, with the keeper of its journal. A contract sees the store's table
@@ -25,6 +28,7 @@ use striped_store::{Closing, Pass, Store};
 pub struct Service<K: Keeper<Placed>> {
     pub(crate) store: Store<Namespace, K>,
     pub(crate) limits: Limits,
+    pub(crate) alloc: Global,
 }
 
 impl<K: Keeper<Placed>> Model for Service<K> {
@@ -55,7 +59,32 @@ impl<K: Keeper<Placed>> Service<K> {
     {
         let (store, passes) = Store::start(alloc, limits, keeper)?;
         let limits = *limits;
-        Ok((Service { store, limits }, passes))
+        let service = Service {
+            store,
+            limits,
+            alloc,
+        };
+        Ok((service, passes))
+    }
+
+    /// The allocator that it was started with.
+    pub fn alloc(&self) -> Global {
+        self.alloc
+    }
+
+    /// Lets a pass of the service, which holds nothing, take the locks of no stripe and give them back. From this it is known that the
+    /// pass's own entries are those of what it has seen.
+    pub fn settle<R: Wait>(&self, rt: &R, pass: &mut Pass<Namespace, K>)
+        requires own { IsOf self.now pass.old }
+        requires nothing { HoldsNothing pass.old.seat }
+        ensures again { IsSeatAgain pass.old.seat pass.new.seat }
+        ensures seen { seen_by pass.new ≡ seen_by pass.old }
+        ensures mine { made_by pass.new ≡ made_by pass.old }
+        ensures found { FindsOneJournal namespace pass.new }
+        ensures nothing { HoldsNothing pass.new.seat }
+    {
+        let held = self.store.begin(rt, pass, &Plan::none());
+        self.store.finish(pass, held);
     }
 
     /// The limits that it was started with.

@@ -73,11 +73,17 @@ impl<K: Keeper<Placed>> Service<K> {
 // The answer, with how many rounds it took.
 fn with_rounds(answer: Answer, rounds: u32) -> Answer
     ensures bytes { result.bytes.items ≡ answer.bytes.items }
+    ensures mark { result.mark ≡ answer.mark }
     ensures receipt { result.receipt ≡ record answer.receipt { rounds = rounds } }
 {
-    let Answer { bytes, receipt } = answer;
+    let Answer {
+        bytes,
+        mark,
+        receipt,
+    } = answer;
     Answer {
         bytes,
+        mark,
         receipt: Receipt { rounds, ..receipt },
     }
 }

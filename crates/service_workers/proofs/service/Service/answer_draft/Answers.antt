@@ -28,5 +28,5 @@ returns-in-Ok-commit_draft-clause-ok g c =
     ∙ ap (λ (x : Entry). reply_text c.args.draft.reply number x.moment x.request.head) (sym entry_is) in
     let long : length c.fill.new.bytes ≡ c.in-Ok.prepared.text.len = search rules in
     let items : (with_items c.in-Ok.prepared.text c.fill.new.bytes).items ≡ c.fill.new.bytes = with_items_is c.in-Ok.prepared.text c.fill.new.bytes long in
-    commits_as c.args.pass.now c.commit_draft.new.pass c.in-Ok.prepared.placed c.args.entry c.args.draft.reply (record { bytes = with_items c.in-Ok.prepared.text c.fill.new.bytes; receipt = c.in-Ok-commit_draft.receipt })
-    entry_is done.seen done.mine done.fit by done.reply done.number done.footprint (items ∙ text)
+    commits_as c.args.pass.now c.commit_draft.new.pass c.in-Ok.prepared.placed c.args.entry c.args.draft.reply (record { bytes = with_items c.in-Ok.prepared.text c.fill.new.bytes; mark = c.of-mark.result; receipt = c.in-Ok-commit_draft.receipt })
+    entry_is done.seen done.mine done.fit by done.reply done.number done.footprint (items ∙ text) c.of-mark.ensures

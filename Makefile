@@ -36,6 +36,7 @@ bench:
 	bench/allocations
 	bench/locks
 	bench/files
+	bench/serve
 
 fmt:
 	for crate in crates/*/src; do (cd $$crate/.. && rt fmt); done

@@ -1,2 +1,3 @@
-pub mod Words
 pub mod Piped
+pub mod Serves
+pub mod Summary

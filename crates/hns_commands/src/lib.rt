@@ -3,10 +3,16 @@
 //! The program is a few lines that make the real ends and call a function of this library, so that what it does is proved of the
 //! call that it makes, and tests make the same call over ends in memory.
 //!
-//! Definitions: specs/Words.antt (the words of `hns pipe`, and the limits that they give), specs/Piped.antt (what it does, and its statuses).
+//! Definitions: specs/Piped.antt (what `hns pipe` does, and its statuses), specs/Serves.antt (what `hns serve` does, and its statuses),
+//! specs/Summary.antt (the summary that it ends with). Words are those of `command_words`.
 #![tactic(auto)]
 
 mod pipe;
-mod words;
+mod serve;
+mod summary;
+mod team;
+mod usage;
 
-pub use pipe::{USAGE, run_pipe};
+pub use pipe::run_pipe;
+pub use serve::{Served, run_serve};
+pub use usage::text_of;

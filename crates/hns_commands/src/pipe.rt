@@ -1,20 +1,12 @@
 ghost use Rattle.std.specs.Prelude.{◌≡◌, ◌↔◌, None, Some};
 ghost use Rattle.commit_journal.specs.Limits.{LimitNumbers};
-ghost use Rattle.hns_commands.specs.Words.{pipe_limits};
+ghost use Rattle.command_words.specs.Words.{pipe_limits};
 ghost use Rattle.hns_commands.specs.Piped.{Piped, status_of_end};
 
-use super::words::pipe_limits;
+use command_words::pipe_limits;
 use conn_io::{Clock, Sink, Source};
 use engine::{End, Solo, serve_solo};
 use std::alloc::Global;
-
-/// What the program prints on standard error where its words are no command.
-pub const USAGE: &str = "\
-usage: hns pipe [--journal-max N] [--bytes-max N] [--requests-max N]
-  serves HTTP/1.1 requests from standard input and writes the replies to standard output
-  --journal-max N   at most so many requests are kept, 1 to 4194304 (4194304 where it is not given)
-  --bytes-max N     with at most so many bytes of bodies, 0 to 2147483648 (2147483648)
-  --requests-max N  at most so many requests are answered, 1 to 1048576 (1048576)";
 
 /// `hns pipe`: serves one connection from an empty namespace, and answers the exit status: 0 where the source was at its end between two
 /// requests or the last request asked for the connection to be closed, 3 where the source failed, 4 where the sink failed, 5 for want of

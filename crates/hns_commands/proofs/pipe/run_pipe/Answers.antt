@@ -2,7 +2,7 @@ use Rattle.std.proofs.Common.{[], inl, refl}
 use Rattle.engine.specs.Solos.{as_asked}
 use Rattle.serving.specs.declared.end.End.TheVariants.{NoMemory}
 use Rattle.serving.proofs.AloneLemmas.{not_begun_alone}
-use Rattle.hns_commands.proofs.WordLemmas.{some_request}
+use Rattle.command_words.proofs.WordLemmas.{some_request}
 use Rattle.hns_commands.proofs.pipe.run_pipe.Goals as goal
 
 pub returns-in-Err-clause-piped : goal.returns-in-Err-clause-piped

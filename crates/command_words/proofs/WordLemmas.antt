@@ -1,6 +1,6 @@
 -- Options are read one after the other.
 use Rattle.std.proofs.Common.{◌≡◌, ℕ, Bool, true, false, cond, ◌&&◌, ◌==◌, ◌<◌, length, nat_lt, Bor, List, [], ◌∷◌, bytes_eq, Option, Some, None, option_map, unwrap_or, map, filter, refl, sym, subst, ap, ◌∙◌, arith, lit<}
-use Rattle.std.specs.Prelude.{String, string_bytes, codes}
+use Rattle.std.specs.Prelude.{String, codes}
 use Rattle.std.specs.List.{position_or_len, before_first, after_first}
 use Rattle.std.proofs.lemmas.Bool.{false≢true}
 use Rattle.std.proofs.lemmas.Bool.Decides.{nat_tests}
@@ -9,8 +9,9 @@ use Rattle.std.proofs.lemmas.Str.Pattern.{IsSplitOnceResult, split_once_first}
 use Rattle.std.specs.declared.alloc.Global.{Global}
 use Rattle.commit_journal.specs.Limits.{LimitNumbers, are_within, limits_of}
 use Rattle.commit_journal.specs.declared.limits.TheConstants.{JOURNAL_MOST, BYTES_MOST, REQUESTS_MOST}
-use Rattle.head_text.specs.Decimal.{decimal_value}
-use Rattle.hns_commands.specs.Words.{Given, is_equals, has_value, in_one, in_two, after, with_front, given_in, texts_of, values_of, one_number, is_option, journal_option, bytes_option, requests_option, are_options, are_given, limits_given, pipe_limits}
+use Rattle.command_words.specs.declared.job.Command.{Command}
+use Rattle.command_words.specs.declared.job.Command.TheVariants.{Pipe}
+use Rattle.command_words.specs.Words.{Given, is_equals, has_value, in_one, in_two, after, with_front, given_in, texts_of, values_of, at_most_one, number_given, takes, journal_option, bytes_option, requests_option, are_options, are_given, limits_for, options_behind, pipe_limits}
 
 -- ---- the first of the words
 
@@ -58,38 +59,38 @@ none_given word [] e none = ap (λ b. cond b (Some (in_one word ∷ [])) None) (
 pub is_none : (n : ℕ) → (n == 0) ≡ true → n ≡ 0
 is_none n e = grind (arith, nat_tests)
 
-pub all_given : (words : List (String Global)) → length words ≡ 0 → are_given words ≡ true
+pub all_given : (command : Command) (words : List (String Global)) → length words ≡ 0 → are_given command words ≡ true
 unfolding given_in
-all_given [] e = refl
-all_given (word ∷ words) e = absurd (omega arith)
+all_given command [] e = refl
+all_given command (word ∷ words) e = absurd (omega arith)
 
 -- ---- one option and those behind it
 
--- the options are those of pipe where the first is one, and those behind it are
-pub are_first : (first : Given) (more : Option (List Given)) (b : Bool) → is_option first.name ≡ b
-    → unwrap_or (option_map are_options (with_front first more)) false ≡ cond b (unwrap_or (option_map are_options more) false) false
-are_first first None true e = refl
-are_first first None false e = refl
-are_first first (Some given) true e = ap (λ b. b && are_options given) e
-are_first first (Some given) false e = ap (λ b. b && are_options given) e
+module _ (command : Command) where
+  -- the options are those of the command where the first is one, and those behind it are
+  pub are_first : (first : Given) (more : Option (List Given)) (b : Bool) → takes command first.name ≡ b
+      → unwrap_or (option_map (are_options command) (with_front first more)) false ≡ cond b (unwrap_or (option_map (are_options command) more) false) false
+  are_first first None true e = refl
+  are_first first None false e = refl
+  are_first first (Some given) true e = ap (λ b. b && are_options command given) e
+  are_first first (Some given) false e = ap (λ b. b && are_options command given) e
 
--- ---- the number of one option
+-- ---- the value of one option
 
--- the number, where one was found before
-abbrev pub number_behind : Option ℕ → ℕ → List (List ℕ) → Option ℕ
-number_behind None otherwise values = one_number otherwise values
-number_behind (Some number) otherwise [] = Some number
-number_behind (Some number) otherwise (value ∷ values) = None
+-- the value, where one was found before
+abbrev pub value_behind : Option (List ℕ) → List (List ℕ) → Option (Option (List ℕ))
+value_behind None values = at_most_one values
+value_behind (Some value) [] = Some (Some value)
+value_behind (Some value) (next ∷ values) = None
 
-abbrev pub number_left : Option ℕ → List ℕ → ℕ → List (String Global) → Option ℕ
-number_left found name otherwise words = after (given_in (texts_of words)) (λ given. number_behind found otherwise (values_of name given))
+abbrev pub value_left : Option (List ℕ) → List ℕ → List (String Global) → Option (Option (List ℕ))
+value_left found name words = after (given_in (texts_of words)) (λ given. value_behind found (values_of name given))
 
-pub number_read : (found : Option ℕ) (name : List ℕ) (otherwise : ℕ) (words : List (String Global)) → length words ≡ 0
-    → number_left found name otherwise words ≡ Some (unwrap_or found otherwise)
+pub value_read : (found : Option (List ℕ)) (name : List ℕ) (words : List (String Global)) → length words ≡ 0 → value_left found name words ≡ Some found
 unfolding given_in
-number_read None name otherwise [] e = refl
-number_read (Some number) name otherwise [] e = refl
-number_read found name otherwise (word ∷ words) e = absurd (omega arith)
+value_read None name [] e = refl
+value_read (Some value) name [] e = refl
+value_read found name (word ∷ words) e = absurd (omega arith)
 
 values_other : (name : List ℕ) (first : Given) (given : List Given) → bytes_eq first.name name ≡ false → values_of name (first ∷ given) ≡ values_of name given
 values_other name first given e = ap (λ b. map (λ (g : Given). g.value) (cond b (first ∷ filter (λ (g : Given). bytes_eq g.name name) given) (filter (λ (g : Given). bytes_eq g.name name) given))) e
@@ -97,39 +98,28 @@ values_other name first given e = ap (λ b. map (λ (g : Given). g.value) (cond 
 values_same : (name : List ℕ) (first : Given) (given : List Given) → bytes_eq first.name name ≡ true → values_of name (first ∷ given) ≡ first.value ∷ values_of name given
 values_same name first given e = ap (λ b. map (λ (g : Given). g.value) (cond b (first ∷ filter (λ (g : Given). bytes_eq g.name name) given) (filter (λ (g : Given). bytes_eq g.name name) given))) e
 
-module _ (name : List ℕ) (otherwise : ℕ) (first : Given) where
+module _ (name : List ℕ) (first : Given) where
   -- another option is passed over
-  pub passed : (more : Option (List Given)) (found : Option ℕ) → bytes_eq first.name name ≡ false
-      → after (with_front first more) (λ given. number_behind found otherwise (values_of name given)) ≡ after more (λ given. number_behind found otherwise (values_of name given))
+  pub passed : (more : Option (List Given)) (found : Option (List ℕ)) → bytes_eq first.name name ≡ false
+      → after (with_front first more) (λ given. value_behind found (values_of name given)) ≡ after more (λ given. value_behind found (values_of name given))
   passed None found e = refl
-  passed (Some given) found e = ap (number_behind found otherwise) (values_other name first given e)
+  passed (Some given) found e = ap (value_behind found) (values_other name first given e)
 
   -- the option comes again
-  pub again : (more : Option (List Given)) (number : ℕ) → bytes_eq first.name name ≡ true
-      → after (with_front first more) (λ given. number_behind (Some number) otherwise (values_of name given)) ≡ None
-  again None number e = refl
-  again (Some given) number e = ap (number_behind (Some number) otherwise) (values_same name first given e)
+  pub again : (more : Option (List Given)) (value : List ℕ) → bytes_eq first.name name ≡ true
+      → after (with_front first more) (λ given. value_behind (Some value) (values_of name given)) ≡ None
+  again None value e = refl
+  again (Some given) value e = ap (value_behind (Some value)) (values_same name first given e)
 
-  -- the option comes, and its value is no number
-  no_number : (values : List (List ℕ)) → decimal_value first.value ≡ None → one_number otherwise (first.value ∷ values) ≡ None
-  no_number [] e = e
-  no_number (value ∷ values) e = refl
+  -- the option comes
+  is_value : (values : List (List ℕ)) → at_most_one (first.value ∷ values) ≡ value_behind (Some first.value) values
+  is_value [] = refl
+  is_value (value ∷ values) = refl
 
-  pub spoiled : (more : Option (List Given)) → bytes_eq first.name name ≡ true → decimal_value first.value ≡ None
-      → after (with_front first more) (λ given. number_behind None otherwise (values_of name given)) ≡ None
-  spoiled None e none = refl
-  spoiled (Some given) e none = ap (one_number otherwise) (values_same name first given e) ∙ no_number (values_of name given) none
-
-  -- the option comes, with this number
-  is_number : (values : List (List ℕ)) (number : ℕ) → decimal_value first.value ≡ Some number
-      → one_number otherwise (first.value ∷ values) ≡ number_behind (Some number) otherwise values
-  is_number [] number e = e
-  is_number (value ∷ values) number e = refl
-
-  pub taken : (more : Option (List Given)) (number : ℕ) → bytes_eq first.name name ≡ true → decimal_value first.value ≡ Some number
-      → after (with_front first more) (λ given. number_behind None otherwise (values_of name given)) ≡ after more (λ given. number_behind (Some number) otherwise (values_of name given))
-  taken None number e is = refl
-  taken (Some given) number e is = ap (one_number otherwise) (values_same name first given e) ∙ is_number (values_of name given) number is
+  pub taken : (more : Option (List Given)) → bytes_eq first.name name ≡ true
+      → after (with_front first more) (λ given. value_behind None (values_of name given)) ≡ after more (λ given. value_behind (Some first.value) (values_of name given))
+  taken None e = refl
+  taken (Some given) e = ap at_most_one (values_same name first given e) ∙ is_value (values_of name given)
 
 -- ---- the limits that the words give
 
@@ -155,18 +145,16 @@ limits_request n limits e =
     let within = some_where (are_within n) (Some n) limits e in
     subst (λ (m : LimitNumbers). 0 < m.requests_max) (same_Some n limits within.1) (within_request n within.0)
 
-given_request : (given : List Given) (limits : LimitNumbers) → limits_given given ≡ Some limits → 0 < limits.requests_max
-given_request given limits e =
-    let options = some_where (are_options given) _ limits e in
-    let entries = some_after (one_number JOURNAL_MOST (values_of journal_option given)) _ limits options.1 in
-    let bytes = some_after (one_number BYTES_MOST (values_of bytes_option given)) _ limits entries.1 in
-    let requests = some_after (one_number REQUESTS_MOST (values_of requests_option given)) _ limits bytes.1 in
-    limits_request (record { passes = 1; journal_max = entries.0; bytes_max = bytes.0; requests_max = requests.0 }) limits requests.1
+-- limits give room for a request
+pub for_request : (passes : ℕ) (words : List (String Global)) (limits : LimitNumbers) → limits_for passes words ≡ Some limits → 0 < limits.requests_max
+for_request passes words limits e =
+    let entries = some_after (number_given journal_option JOURNAL_MOST words) _ limits e in
+    let bytes = some_after (number_given bytes_option BYTES_MOST words) _ limits entries.1 in
+    let requests = some_after (number_given requests_option REQUESTS_MOST words) _ limits bytes.1 in
+    limits_request (record { passes = passes; journal_max = entries.0; bytes_max = bytes.0; requests_max = requests.0 }) limits requests.1
 
--- the words give room for a request
+-- so do those of `pipe`
 pub some_request : (words : List (String Global)) (limits : LimitNumbers) → pipe_limits words ≡ Some limits → 0 < limits.requests_max
-some_request [] limits e = absurd (none-some _ e)
-some_request (word ∷ words) limits e =
-    let command = some_where (bytes_eq (string_bytes word) (codes "pipe")) _ limits e in
-    let given = some_after (given_in (texts_of words)) limits_given limits command.1 in
-    given_request given.0 limits given.1
+some_request words limits e =
+    let options = some_after (options_behind Pipe (codes "pipe") words) (limits_for 1) limits e in
+    for_request 1 options.0 limits options.1

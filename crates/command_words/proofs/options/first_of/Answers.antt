@@ -1,7 +1,7 @@
 use Rattle.std.proofs.Common.{ap, sym, ◌∙◌, ◌∷◌, string_bytes}
-use Rattle.hns_commands.specs.Words.{after, given_in, texts_of, with_front}
-use Rattle.hns_commands.proofs.WordLemmas.{cut_given, next_given, none_given}
-use Rattle.hns_commands.proofs.words.first_of.Goals as goal
+use Rattle.command_words.specs.Words.{after, given_in, texts_of, with_front}
+use Rattle.command_words.proofs.WordLemmas.{cut_given, next_given, none_given}
+use Rattle.command_words.proofs.options.first_of.Goals as goal
 
 pub returns-in-Some-clause-first : goal.returns-in-Some-clause-first
 returns-in-Some-clause-first c =
